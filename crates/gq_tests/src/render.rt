@@ -88,36 +88,33 @@ fn home(rt: &impl Test, person: NodeId, city: Option<NodeId>) -> WideRow {
     row
 }
 
-fn push<'g>(rt: &impl Test, table: &mut RowTable<'g>, graph: &'g Graph, row: &WideRow)
+fn push(rt: &impl Test, table: &mut RowTable<'_>, row: &WideRow)
     requires continued { IsContinued table.old.bound }
     requires started { IsSome table.old.alternative }
-    requires graph { table.old.graph ≡ graph.now }
     requires stands { StandsForSome table.old }
     ensures continued { IsContinued table.new.bound }
     ensures started { IsSome table.new.alternative }
-    ensures graph { table.new.graph ≡ graph.now }
     ensures stands { StandsForSome table.new }
 {
     assert!(rt; !table.enough());
-    match table.push_wide(row, None, graph) {
+    match table.push_wide(row, None) {
         Ok(More::Go) => {}
         _ => panic!(rt; "no row"),
     }
 }
 
 // Pushes Ann, who lives in X, and Bob, who lives nowhere.
-fn fill<'g>(rt: &impl Test, table: &mut RowTable<'g>, graph: &'g Graph)
+fn fill(rt: &impl Test, table: &mut RowTable<'_>)
     requires continued { IsContinued table.old.bound }
     requires started { IsSome table.old.alternative }
-    requires graph { table.old.graph ≡ graph.now }
     requires stands { StandsForSome table.old }
     ensures { StandsForSome table.new }
 {
     let ann = NodeId { table: 0, row: 0 };
     let bob = NodeId { table: 0, row: 1 };
     let city = NodeId { table: 1, row: 0 };
-    push(rt, table, graph, &home(rt, ann, Some(city)));
-    push(rt, table, graph, &home(rt, bob, None));
+    push(rt, table, &home(rt, ann, Some(city)));
+    push(rt, table, &home(rt, bob, None));
 }
 
 fn is_row(rt: &impl Test, graph: &Graph, listing: &Listing<'_>, row: usize, wanted: &str) -> bool
@@ -138,7 +135,7 @@ const HOMES: &str = "MATCH (p:Person) OPTIONAL MATCH (p)-[:LIVES_IN]->(c) RETURN
 
 fn are_listed(rt: &impl Test, graph: &Graph, bound: &Bound) -> bool {
     let mut table = table(rt, bound, graph);
-    fill(rt, &mut table, graph);
+    fill(rt, &mut table);
     let listing = table.finish().expect(rt, "memory");
     are_rows(rt, graph, &listing)
 }
