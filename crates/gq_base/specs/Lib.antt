@@ -1,4 +1,5 @@
 pub mod Catalogs
+pub mod Directions
 pub mod Lists
 pub mod Plain
 pub mod Rels

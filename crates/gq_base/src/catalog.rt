@@ -11,6 +11,7 @@ use crate::direction::Direction;
 use crate::list::List;
 use crate::memory::Memory;
 use crate::text::Text;
+use crate::try_clone::TryClone;
 use std::alloc::Global;
 use std::marker::Model;
 
@@ -51,6 +52,15 @@ impl Mult {
 pub struct Field {
     pub name: Text,
     pub kind: Kind,
+}
+
+impl TryClone for Field {
+    fn try_clone(&self, alloc: Global) -> Result<Field, Memory> {
+        Ok(Field {
+            name: self.name.try_clone(alloc)?,
+            kind: self.kind,
+        })
+    }
 }
 
 /// A table of nodes that have the same labels. Its word is the labels as the manifest spells them,

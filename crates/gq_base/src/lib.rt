@@ -16,6 +16,7 @@ mod rels;
 mod rows;
 mod text;
 mod truth;
+mod try_clone;
 mod value;
 mod word;
 
@@ -32,5 +33,6 @@ pub use rels::{RelRef, RelRows};
 pub use rows::NodeRows;
 pub use text::Text;
 pub use truth::{and3, not3, or3, xor3};
+pub use try_clone::{TryClone, copy_all};
 pub use value::{NodeId, RelId, Value, equal3, less3, order_of, same};
 pub use word::{is_word_part, is_word_start, read_name, read_text};

@@ -1,13 +1,17 @@
 //! A growable list whose contract is the list of its items.
 ghost use Rattle.std.specs.Prelude.{◌≡◌, [], ◌∷◌, ◌++◌, ◌<◌, length, slice_get, slice_set, ◌↔◌};
-ghost use Rattle.std.specs.Prelude.{IsTrue, OnOk, OnErr, OnSome};
+ghost use Rattle.std.specs.Prelude.{IsTrue, IfOk, OnOk, OnErr, OnSome};
 ghost use Rattle.std.specs.Option.{option_copied};
-ghost use Rattle.std.specs.List.{AllZip};
+ghost use Rattle.std.specs.List.{AllZip, list_any};
+ghost use Rattle.std.specs.Iterator.Adapters.{IterYieldsInOrder, IterYieldsInReverse};
+ghost use Rattle.std.specs.Slice.Iter.{iter_rest};
 ghost use Rattle.std.specs.Cmp.Lexicographic.{pointwise, lists_per, lists_equiv};
 
 use crate::memory::Memory;
+use crate::try_clone::TryClone;
 use std::alloc::{AllocError, Global};
 use std::marker::Model;
+use std::slice::Iter;
 
 /// A `Vec` that contracts see as the list of its items, so that lists of equal items are equal and
 /// a type may hold itself through it.
@@ -80,6 +84,47 @@ impl<T> List<T> {
     {
         self.vec.get(at)
     }
+
+    /// The items one after the other, in their order or from the last.
+    pub fn iter(&self) -> Iter<'_, T>
+        ensures rest { iter_rest result ≡ self.now }
+        ensures runs { IterYieldsInOrder T }
+        ensures runs_back { IterYieldsInReverse T }
+    {
+        self.vec.as_slice().iter()
+    }
+}
+
+impl<T: PartialEq> List<T> {
+    /// Whether an item is equal to this one.
+    pub fn contains(&self, item: &T) -> bool
+        ensures { result ≡ list_any (λ y. T.eq y item.now) self.now }
+    {
+        self.as_slice().contains(item)
+    }
+}
+
+impl<T: Copy> List<T> {
+    /// A copy of items.
+    pub fn from_slice(alloc: Global, items: &[T]) -> Result<List<T>, Memory>
+        ensures { IfOk result (λ list. list ≡ items.now) }
+    {
+        match Vec::from_slice(alloc, items) {
+            Ok(vec) => Ok(List { vec }),
+            Err(_) => Err(Memory::Exhausted),
+        }
+    }
+
+    /// Appends copies of items. After `Memory` the list is as before.
+    pub fn extend(&mut self, items: &[T]) -> Result<(), Memory>
+        ensures extended { OnOk result (self.new ≡ self.old ++ items.now) }
+        ensures kept { OnErr result (self.new ≡ self.old) }
+    {
+        match self.vec.extend_from_slice(items) {
+            Ok(()) => Ok(()),
+            Err(_) => Err(Memory::Exhausted),
+        }
+    }
 }
 
 impl<T: Drop> List<T> {
@@ -100,6 +145,12 @@ impl<T: Drop> List<T> {
         ensures { self.new ≡ slice_set self.old at item }
     {
         self.vec[at] = item;
+    }
+}
+
+impl TryClone for List<u32> {
+    fn try_clone(&self, alloc: Global) -> Result<List<u32>, Memory> {
+        List::from_slice(alloc, self.as_slice())
     }
 }
 

@@ -10,6 +10,7 @@ ghost use Rattle.std.specs.Cmp.Lexicographic.{pointwise, slice_cmp, nat_list_eq_
 ghost use Rattle.std.specs.Cmp.Lexicographic.{nat_list_cmp_total, texts_ties, texts_po};
 
 use crate::memory::Memory;
+use crate::try_clone::TryClone;
 use std::alloc::{AllocError, Global};
 use std::cmp::Ordering;
 use std::fmt;
@@ -63,6 +64,12 @@ impl Text {
         ensures same { IsTrue result ↔ (self.now ≡ text.now) }
     {
         self.as_str() == text
+    }
+}
+
+impl TryClone for Text {
+    fn try_clone(&self, alloc: Global) -> Result<Text, Memory> {
+        Text::new(alloc, self.as_str())
     }
 }
 
