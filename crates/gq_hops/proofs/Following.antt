@@ -6,6 +6,7 @@ use Rattle.std.proofs.lemmas.List.{drop_more, drop_all}
 use Rattle.std.proofs.lemmas.List.FromFn.{length-range_with_len}
 use Rattle.std.proofs.lemmas.Option.{slice_get_within, get_or_from_slice_get}
 use Rattle.gq_adj.specs.Adjacent.{targets}
+use Rattle.gq_base.specs.Directions.{opposite}
 use Rattle.gq_base.specs.Plain.{Graph, rels_at}
 use Rattle.gq_base.specs.declared.NodeId.{NodeId}
 use Rattle.gq_base.specs.declared.PlainRel.{PlainRel}
@@ -18,7 +19,7 @@ use Rattle.gq_plan.specs.Assignments.{source, target, source_in, target_in, rels
 use Rattle.gq_plan.specs.Meaning.{near, far}
 use Rattle.gq_store.proofs.Picking.{picked, pick_some, pick_number, one_length}
 use Rattle.gq_store.specs.Neighbours as stored
-use Rattle.gq_store.specs.Neighbours.{near_ends, neighbours, numbers, opposite}
+use Rattle.gq_store.specs.Neighbours.{near_ends, neighbours, numbers}
 use Rattle.gq_hops.specs.steps.Hops.{near_table, far_table}
 
 -- a relationship that is followed: its load number, and the row to which it leads

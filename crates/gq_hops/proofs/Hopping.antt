@@ -8,6 +8,7 @@ use Rattle.std.proofs.lemmas.List.{append_assoc, drop_more, drop_all}
 use Rattle.std.proofs.lemmas.List.Elements.{filter-append}
 use Rattle.std.proofs.lemmas.Option.{slice_get_past, slice_get_within, get_or_from_slice_get}
 use Rattle.std.specs.Cmp.Lexicographic.{pointwise}
+use Rattle.gq_base.specs.Directions.{opposite}
 use Rattle.gq_base.specs.Plain.{Graph, rels_at, rows_at, all_of}
 use Rattle.gq_base.specs.Valid.{row_count}
 use Rattle.gq_base.specs.declared.NodeId.{NodeId}
@@ -18,7 +19,7 @@ use Rattle.gq_base.specs.declared.direction.Direction.TheVariants.{Forward, Back
 use Rattle.gq_plan.specs.Allowed.{at_same}
 use Rattle.gq_plan.specs.Assignments.{all_rels, is_node, rels_of}
 use Rattle.gq_plan.specs.Meaning.{far, holds, near}
-use Rattle.gq_store.specs.Neighbours.{near_rows, neighbours, numbers, opposite, end_rows}
+use Rattle.gq_store.specs.Neighbours.{near_rows, neighbours, numbers, end_rows}
 use Rattle.gq_hops.specs.Levels.{is_met, met_all}
 use Rattle.gq_hops.specs.steps.Hops.{IsLevelIn, IsNearIn, far_table, followed, left_at, left_from, met_in, near_in, near_table, tables_in, tables_of}
 use Rattle.gq_hops.specs.declared.follow.Followed.{Followed}

@@ -3,6 +3,7 @@ use Rattle.std.proofs.Common.{◌≡◌, ℕ, zero, suc, ◌<◌, nat_eq, get_or
 use Rattle.std.specs.List.{AllByRecursion}
 use Rattle.std.proofs.lemmas.Bool.Decides.{nat_tests}
 use Rattle.std.proofs.lemmas.List.{append_assoc, append-nil}
+use Rattle.gq_base.specs.Directions.{opposite}
 use Rattle.gq_base.specs.Plain.{Graph}
 use Rattle.gq_base.specs.declared.NodeId.{NodeId}
 use Rattle.gq_base.specs.declared.RelId.{RelId}
@@ -16,7 +17,6 @@ use Rattle.gq_plan.specs.Assignments.{all_rels, is_node}
 use Rattle.gq_plan.specs.Meaning.{far, near}
 use Rattle.gq_plan.proofs.Each.{each_then}
 use Rattle.std.specs.Prelude.{slice_get}
-use Rattle.gq_store.specs.Neighbours.{opposite}
 use Rattle.gq_hops.specs.steps.Aims.{AreHit, AreInside, IsHit, IsUnderWay}
 use Rattle.gq_hops.specs.Levels.{is_met}
 use Rattle.gq_hops.specs.steps.Hops.{IsFirst, IsStart, left_at, left_of}

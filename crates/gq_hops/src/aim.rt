@@ -2,12 +2,12 @@
 //! backward from the nodes where it may, some relationships far.
 ghost use Rattle.std.specs.Prelude.{◌≡◌, ◌<◌, ◌≤◌, suc, true, IfOk, length};
 ghost use Rattle.std.specs.List.{AllByRecursion};
+ghost use Rattle.gq_base.specs.Directions.{opposite};
 ghost use Rattle.gq_base.specs.Plain.{Graph as Plain};
 ghost use Rattle.gq_base.specs.declared.NodeId.{NodeId as Node};
 ghost use Rattle.gq_law_trails.specs.Bounds.{AreBounds};
 ghost use Rattle.gq_marks.specs.Marking.{IsSpread, bound_of, is_marked};
 ghost use Rattle.gq_plan.specs.Assignments.{is_node};
-ghost use Rattle.gq_store.specs.Neighbours.{opposite};
 ghost use Rattle.gq_hops.specs.steps.Aims.{AreHit, AreInside, IsAimed};
 ghost use Rattle.gq_hops.specs.steps.Hops.{AreTables};
 

@@ -1,7 +1,6 @@
 //! Relationships of a type at a node, one after another.
 ghost use Rattle.std.specs.Prelude.{◌≡◌, true, slice_get, IfOk};
 ghost use Rattle.gq_plan.specs.Assignments.{is_node};
-ghost use Rattle.gq_store.specs.Neighbours.{opposite};
 ghost use Rattle.gq_hops.specs.steps.Hops.{AreTables, IsHop, IsLevel, IsMetHere, IsNear, IsNextMet};
 ghost use Rattle.gq_hops.specs.steps.Hops.{IsSite, IsStart, far_table, near_table, tables_of};
 
@@ -115,16 +114,6 @@ fn far_end(table: &RelTable, way: Direction) -> u32
     match way {
         Direction::Forward => table.to,
         Direction::Backward => table.from,
-    }
-}
-
-/// The other direction.
-pub(crate) fn opposite_way(way: Direction) -> Direction
-    ensures { result ≡ opposite way }
-{
-    match way {
-        Direction::Forward => Direction::Backward,
-        Direction::Backward => Direction::Forward,
     }
 }
 

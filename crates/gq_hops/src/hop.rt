@@ -1,6 +1,7 @@
 //! The rows to which a row's relationships of a table lead, as the graph keeps them.
 ghost use Rattle.std.specs.Prelude.{◌≡◌, ◌^◌, ◌<◌, All, length, slice_get};
-ghost use Rattle.gq_store.specs.Neighbours.{near_rows, neighbours, opposite};
+ghost use Rattle.gq_base.specs.Directions.{opposite};
+ghost use Rattle.gq_store.specs.Neighbours.{near_rows, neighbours};
 ghost use Rattle.gq_hops.specs.steps.Nears.{rows_in};
 
 use gq_base::Direction;

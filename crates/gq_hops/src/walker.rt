@@ -10,7 +10,7 @@ ghost use Rattle.gq_marks.specs.Marking.{bound_of};
 ghost use Rattle.gq_hops.specs.Walking.{course_of};
 
 use crate::aim::{aim_at, marks_for};
-use crate::follow::{Follow, follow_type, opposite_way};
+use crate::follow::{Follow, follow_type};
 use crate::search::{Run, Search};
 use crate::state::{State, state_after};
 use crate::used::Used;
@@ -68,7 +68,7 @@ impl<'g> Walker<'g> {
         ensures bounds { IfOk result (λ w. (n : Node) → bound_of w.bounds n ≡ 0) }
         ensures owed { IfOk result (λ w. w.owed ≡ []) }
     {
-        let back = follow_type(alloc, graph, &part.kind, opposite_way(part.way))?;
+        let back = follow_type(alloc, graph, &part.kind, part.way.opposite())?;
         let bounds = marks_for(alloc, &back, places)?;
         Ok(Walker {
             run: Run {

@@ -62,7 +62,7 @@ impl<'g> NearSet<'g> {
             return None;
         }
         let rows = end_count(graph, table, direction);
-        let far = end_count(graph, table, opposite(direction));
+        let far = end_count(graph, table, direction.opposite());
         match no_marks(alloc, far) {
             Ok(marked) => Some(NearSet {
                 graph,
@@ -161,14 +161,6 @@ fn has(marked: &[Marks], row: u32) -> bool
     match marked.get(row as usize / VECTOR as usize) {
         None => true,
         Some(marks) => marks.get(row % VECTOR),
-    }
-}
-
-// The other direction.
-fn opposite(direction: Direction) -> Direction {
-    match direction {
-        Direction::Forward => Direction::Backward,
-        Direction::Backward => Direction::Forward,
     }
 }
 

@@ -3,12 +3,13 @@ use Rattle.std.proofs.Common.{◌≡◌, ◌≢◌, ◌⊎◌, inl, inr, ℕ, ze
 use Rattle.std.specs.Prelude.{All, slice_get, slice_index, slice_index_or}
 use Rattle.std.proofs.lemmas.Bool.{and_parts, eqb-false, ltb-true, lt-ltb}
 use Rattle.std.proofs.lemmas.Option.{get_or_from_slice_get, slice_get_within}
+use Rattle.gq_base.specs.Directions.{opposite}
 use Rattle.gq_bits.specs.declared.TheConstants.{VECTOR}
 use Rattle.gq_base.specs.declared.direction.Direction.{Direction}
 use Rattle.gq_plan.specs.Plans.{Close}
 use Rattle.gq_plan.specs.Rows.{rel_table}
 use Rattle.gq_plan.specs.declared.assignment.Assignment.{Assignment}
-use Rattle.gq_store.specs.Neighbours.{near_rows, neighbours, opposite}
+use Rattle.gq_store.specs.Neighbours.{near_rows, neighbours}
 use Rattle.gq_sift.specs.steps.Candidates.{AreCandidates, is_row, leads_to}
 use Rattle.gq_steps.specs.steps.Hops.{IsHop}
 use Rattle.gq_steps.specs.Levels.{Run, step_at, built_at, known, before}

@@ -2,6 +2,7 @@
 use Rattle.std.proofs.Common.{◌≡◌, ◌≢◌, inr, ℕ, suc, ◌+◌, ◌^◌, ◌<◌, ◌≤◌, ◌==◌, Bool, true, false, not, Some, None, length, refl, sym, ap, ◌∙◌, subst, arith}
 use Rattle.std.proofs.lemmas.Bool.{true≢false}
 use Rattle.std.specs.Prelude.{slice_get, slice_index}
+use Rattle.gq_base.specs.Directions.{opposite}
 use Rattle.gq_plan.specs.Conditions.{differs}
 use Rattle.gq_plan.specs.Halves.{close_half}
 use Rattle.gq_plan.specs.Meaning.{holds}
@@ -11,7 +12,7 @@ use Rattle.gq_base.specs.declared.direction.Direction.{Direction}
 use Rattle.gq_plan.specs.declared.assignment.Assignment.{Assignment}
 use Rattle.gq_plan.specs.declared.halves.Half.{Half}
 use Rattle.gq_plan.specs.declared.halves.Half.TheVariants.{Whole, First, Second}
-use Rattle.gq_store.specs.Neighbours.{near_rows, neighbours, numbers, opposite}
+use Rattle.gq_store.specs.Neighbours.{near_rows, neighbours, numbers}
 use Rattle.gq_search.specs.Layouts.{has_one}
 use Rattle.gq_sift.specs.steps.Differing.{IsPairTest, other_of, pair_of}
 use Rattle.gq_steps.specs.Keeps.{IsRange, IsTriedAt}

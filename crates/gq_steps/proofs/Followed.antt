@@ -6,6 +6,7 @@ use Rattle.std.proofs.lemmas.List.{drop_more, drop_all}
 use Rattle.std.proofs.lemmas.List.FromFn.{length-range_with_len}
 use Rattle.std.proofs.lemmas.Option.{slice_get_within, get_or_from_slice_get}
 use Rattle.gq_adj.specs.Adjacent.{targets}
+use Rattle.gq_base.specs.Directions.{opposite}
 use Rattle.gq_base.specs.Plain.{Graph, rels_at}
 use Rattle.gq_base.specs.declared.NodeId.{NodeId}
 use Rattle.gq_base.specs.declared.PlainRel.{PlainRel}
@@ -20,7 +21,7 @@ use Rattle.gq_plan.specs.declared.typed.Typed.{Typed}
 use Rattle.gq_plan.specs.declared.typed.TypedRel.{TypedRel}
 use Rattle.gq_store.proofs.Picking.{picked, pick_some, pick_number, one_length}
 use Rattle.gq_store.specs.Neighbours as stored
-use Rattle.gq_store.specs.Neighbours.{near_ends, neighbours, numbers, opposite}
+use Rattle.gq_store.specs.Neighbours.{near_ends, neighbours, numbers}
 use Rattle.gq_steps.specs.steps.Hops.{IsHop}
 use Rattle.gq_steps.specs.declared.follow.Hop.{Hop}
 

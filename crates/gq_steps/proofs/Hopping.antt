@@ -2,10 +2,11 @@
 use Rattle.std.proofs.Common.{◌≡◌, ℕ, ◌^◌, ◌<◌, Some, length, arith}
 use Rattle.std.specs.Prelude.{slice_get}
 use Rattle.std.proofs.lemmas.Option.{slice_get_within}
+use Rattle.gq_base.specs.Directions.{opposite}
 use Rattle.gq_base.specs.Plain.{Graph}
 use Rattle.gq_base.specs.declared.RelTable.{RelTable}
 use Rattle.gq_base.specs.declared.direction.Direction.{Direction}
-use Rattle.gq_store.specs.Neighbours.{near_rows, neighbours, numbers, opposite}
+use Rattle.gq_store.specs.Neighbours.{near_rows, neighbours, numbers}
 use Rattle.gq_steps.specs.steps.Hops.{IsHop}
 use Rattle.gq_steps.proofs.Followed.{as_many, get_some}
 

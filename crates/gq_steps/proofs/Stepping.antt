@@ -6,6 +6,7 @@ use Rattle.std.proofs.lemmas.Bool.{eqb-true, eq-eqb, ne_eqb, ltb-true, and_parts
 use Rattle.std.proofs.lemmas.List.{drop_more, drop_all, get_or-set_same, get_or-set_other, length-set}
 use Rattle.std.proofs.lemmas.List.FromFn.{length-range_with_len, get_or-range_with_len}
 use Rattle.std.proofs.lemmas.Option.{slice_get_within, get_or_from_slice_get}
+use Rattle.gq_base.specs.Directions.{opposite}
 use Rattle.gq_base.specs.Plain.{Graph, rows_at}
 use Rattle.gq_base.specs.Valid.{row_count}
 use Rattle.gq_base.specs.declared.RelId.{RelId}
@@ -23,7 +24,7 @@ use Rattle.gq_plan.specs.Soundness.{EndsFit}
 use Rattle.gq_plan.specs.Plans.{Step, Scan, Extend, Close, Single}
 use Rattle.gq_plan.specs.declared.typed.Typed.{Typed}
 use Rattle.gq_plan.specs.declared.typed.TypedRel.{TypedRel}
-use Rattle.gq_store.specs.Neighbours.{near_rows, neighbours, numbers, end_rows, opposite}
+use Rattle.gq_store.specs.Neighbours.{near_rows, neighbours, numbers, end_rows}
 use Rattle.gq_steps.specs.steps.Hops.{IsHop}
 use Rattle.gq_steps.specs.Levels.{Run, step_at, built_at, taken, known, before}
 use Rattle.gq_steps.specs.Moves.{IsRun, IsHeld, IsAlike, IsMade, IsMissed, IsPast}

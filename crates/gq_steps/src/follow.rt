@@ -1,6 +1,7 @@
 //! Relationships at a node, place by place.
 ghost use Rattle.std.specs.Prelude.{◌≡◌, ◌^◌, ◌<◌, length, slice_get, IfSome};
-ghost use Rattle.gq_store.specs.Neighbours.{near_rows, neighbours, opposite};
+ghost use Rattle.gq_base.specs.Directions.{opposite};
+ghost use Rattle.gq_store.specs.Neighbours.{near_rows, neighbours};
 ghost use Rattle.gq_steps.specs.steps.Hops.{IsHopAt};
 
 use gq_base::Direction;

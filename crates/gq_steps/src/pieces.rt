@@ -1,6 +1,7 @@
 //! Pieces of the whole lists of groups.
 ghost use Rattle.std.specs.Prelude.{◌≡◌, ◌+◌, ◌-◌, ◌<◌, ◌≤◌, min, true, None, length, slice_index};
 ghost use Rattle.std.specs.Prelude.{slice_index_or, All, ◌^◌};
+ghost use Rattle.gq_base.specs.Directions.{opposite};
 ghost use Rattle.gq_law_groups.specs.Groups.{makes_group};
 ghost use Rattle.gq_steps.specs.Pieces.{IsPieceOf, KeepsOf, list_of, part};
 ghost use Rattle.gq_steps.specs.Levels.{known, step_at};
@@ -8,7 +9,7 @@ ghost use Rattle.gq_steps.specs.Matches.{AreMatches};
 ghost use Rattle.gq_steps.specs.Moves.{builds_in, run_of, steps_in, IsRun, IsHeld};
 ghost use Rattle.gq_steps.specs.Follows.{CanList};
 ghost use Rattle.gq_plan.specs.Rows.{rel_table};
-ghost use Rattle.gq_store.specs.Neighbours.{near_rows, neighbours, opposite};
+ghost use Rattle.gq_store.specs.Neighbours.{near_rows, neighbours};
 
 use crate::plan_run::{Follow, PlanRun, following};
 use gq_bits::VECTOR;

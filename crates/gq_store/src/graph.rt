@@ -2,6 +2,7 @@
 ghost use Rattle.std.specs.Prelude.{◌≡◌, ◌≢◌, ℕ, ◌+◌, ◌<◌, ◌≤◌, ◌^◌, true, false, List, length};
 ghost use Rattle.std.specs.Prelude.{slice_get, All, IfOk, IfSome, Some, None};
 ghost use Rattle.gq_adj.specs.Adjacent.{targets};
+ghost use Rattle.gq_base.specs.Directions.{opposite};
 ghost use Rattle.gq_base.specs.Plain.{cell_val, rels_at};
 ghost use Rattle.gq_base.specs.Valid.{is_valid, row_count};
 ghost use Rattle.gq_base.specs.Values.{val};
@@ -9,7 +10,7 @@ ghost use Rattle.gq_base.specs.declared.Mult.TheVariants.{ManyMany};
 ghost use Rattle.gq_store.specs.Cells.{node_cell, node_fields, rel_cell, rel_fields};
 ghost use Rattle.gq_store.specs.Columns.{AreCells, IsDictOf, node_cells};
 ghost use Rattle.gq_store.specs.Neighbours.{is_listed, mult_at, near_ends, near_rows, neighbours};
-ghost use Rattle.gq_store.specs.Neighbours.{numbers, opposite};
+ghost use Rattle.gq_store.specs.Neighbours.{numbers};
 ghost use Rattle.gq_store.specs.Places.{by_source, first_number, number_at};
 ghost use Rattle.gq_store.specs.RelColumns.{rel_cells};
 ghost use Rattle.gq_store.specs.steps.Stored.{IsLinked, IsSide};

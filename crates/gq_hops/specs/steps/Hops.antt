@@ -2,6 +2,7 @@
 use Rattle.std.specs.Prelude.{◌≡◌, ℕ, ◌+◌, ◌^◌, ◌<◌, All, length, if◌then◌else◌, nat_eq, Bool, true, ◌&&◌, Option, Some, None, MatchOption, List, [], ◌∷◌, ◌++◌, filter, flat_map, drop, get_or, slice_get}
 use Rattle.std.specs.Cmp.Lexicographic.{pointwise}
 use Rattle.std.specs.List.{list_any}
+use Rattle.gq_base.specs.Directions.{opposite}
 use Rattle.gq_base.specs.Plain.{Graph}
 use Rattle.gq_base.specs.declared.NodeId.{NodeId}
 use Rattle.gq_base.specs.declared.RelId.{RelId}
@@ -10,7 +11,7 @@ use Rattle.gq_base.specs.declared.direction.Direction.{Direction}
 use Rattle.gq_base.specs.declared.direction.Direction.TheVariants.{Forward, Backward}
 use Rattle.gq_plan.specs.Assignments.{is_node, rels_of}
 use Rattle.gq_plan.specs.Meaning.{far}
-use Rattle.gq_store.specs.Neighbours.{near_rows, neighbours, numbers, opposite}
+use Rattle.gq_store.specs.Neighbours.{near_rows, neighbours, numbers}
 use Rattle.gq_hops.specs.declared.follow.Follow.{Follow}
 use Rattle.gq_hops.specs.declared.follow.Hop.{Hop}
 use Rattle.gq_hops.specs.declared.follow.Level.{Level}

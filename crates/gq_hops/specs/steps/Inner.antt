@@ -1,9 +1,9 @@
 -- What the fields of a walker stand for, and what is true of them.
 use Rattle.std.specs.Prelude.{◌≡◌, ◌≤◌, true, Option, Some, List, []}
+use Rattle.gq_base.specs.Directions.{opposite}
 use Rattle.gq_base.specs.declared.NodeId.{NodeId}
 use Rattle.gq_base.specs.declared.RelId.{RelId}
 use Rattle.gq_plan.specs.Assignments.{is_node}
-use Rattle.gq_store.specs.Neighbours.{opposite}
 use Rattle.gq_law_trails.specs.Bounds.{AreBounds}
 use Rattle.gq_law_trails.specs.Walks.{end_of}
 use Rattle.gq_hops.specs.Walking.{Walking}

@@ -1,8 +1,9 @@
 -- Relationships that are followed from a row, by their places there.
 use Rattle.std.specs.Prelude.{◌≡◌, ℕ, ◌+◌, ◌^◌, ◌<◌, ◌≤◌, Option, Some, MatchOption, length, slice_get}
+use Rattle.gq_base.specs.Directions.{opposite}
 use Rattle.gq_base.specs.Plain.{Graph}
 use Rattle.gq_base.specs.declared.direction.Direction.{Direction}
-use Rattle.gq_store.specs.Neighbours.{near_rows, neighbours, numbers, opposite}
+use Rattle.gq_store.specs.Neighbours.{near_rows, neighbours, numbers}
 use Rattle.gq_steps.specs.declared.follow.Hop.{Hop}
 
 -- the relationship at a place among those that are followed from a row

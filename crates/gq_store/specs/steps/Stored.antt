@@ -4,6 +4,7 @@ use Rattle.std.specs.List.{concat}
 use Rattle.std.specs.declared.option.Option.{Option}
 use Rattle.std.specs.declared.option.Option.TheVariants.{Some}
 use Rattle.gq_adj.specs.Adjacent.{lists_of}
+use Rattle.gq_base.specs.Directions.{opposite}
 use Rattle.gq_base.specs.Plain.{Graph}
 use Rattle.gq_base.specs.declared.Mult.TheVariants.{ManyMany}
 use Rattle.gq_base.specs.declared.direction.Direction.{Direction}
@@ -11,7 +12,7 @@ use Rattle.gq_base.specs.declared.direction.Direction.TheVariants.{Forward, Back
 use Rattle.gq_edges.specs.Once.{AreOnce, IsPairOf, Pair, pair_at}
 use Rattle.gq_edges.specs.Order.{numbers_of, page_start_of}
 use Rattle.gq_edges.specs.steps.Order.{IsPlaceOf}
-use Rattle.gq_store.specs.Neighbours.{is_listed, mult_at, near_ends, near_rows, opposite}
+use Rattle.gq_store.specs.Neighbours.{is_listed, mult_at, near_ends, near_rows}
 use Rattle.gq_store.specs.declared.links.Links.{Links}
 use Rattle.gq_store.specs.declared.links.Shape.{Shape}
 use Rattle.gq_store.specs.declared.links.Places.TheVariants.{Sources, Targets, Paged}

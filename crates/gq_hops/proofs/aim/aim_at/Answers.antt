@@ -1,8 +1,8 @@
 use Rattle.std.proofs.Common.{◌≡◌, ◌∙◌, ℕ, suc, ◌+◌, nat_eq, not, true, length, sym, ap, subst, arith}
 use Rattle.std.proofs.lemmas.List.{length-append}
+use Rattle.gq_base.specs.Directions.{opposite}
 use Rattle.gq_marks.specs.Marking.{IsSpread, Marking, bound_of, is_marked, mark_at}
 use Rattle.gq_plan.proofs.Each.{each_of, each_then}
-use Rattle.gq_store.specs.Neighbours.{opposite}
 use Rattle.gq_hops.specs.steps.Aims.{AreInside, IsAimed}
 use Rattle.gq_hops.proofs.Aiming.{aimed_first, aimed_rest, bounds_are, bounds_closed, bounds_first, bounds_zero, mark_first, no_bounds}
 use Rattle.gq_hops.proofs.aim.aim_at.Goals as goal

@@ -1,7 +1,7 @@
 use Rattle.std.proofs.Common.{◌≡◌, ◌≤◌, suc, length}
 use Rattle.std.specs.List.{AllByRecursion}
+use Rattle.gq_base.specs.Directions.{opposite}
 use Rattle.gq_marks.specs.Marking.{mark_at}
-use Rattle.gq_store.specs.Neighbours.{opposite}
 use Rattle.gq_hops.specs.steps.Aims.{AreInside, IsAimed}
 use Rattle.gq_hops.proofs.aim.aim_at.Given as goal
 

@@ -1,7 +1,7 @@
 use Rattle.std.proofs.Common.{◌≡◌, ◌∙◌, ℕ, suc, ◌+◌, ◌≤◌, length, sym, ap, subst, arith}
 use Rattle.std.proofs.lemmas.List.{length-append}
+use Rattle.gq_base.specs.Directions.{opposite}
 use Rattle.gq_marks.specs.Marking.{IsSpread, Marking}
-use Rattle.gq_store.specs.Neighbours.{opposite}
 use Rattle.gq_hops.specs.steps.Aims.{IsAimed}
 use Rattle.gq_hops.proofs.Aiming.{aimed_next, aimed_round, aimed_still, bounds_are}
 use Rattle.gq_hops.proofs.Spreading.{hits_are, spread_then}

@@ -1,6 +1,6 @@
 use Rattle.std.proofs.Common.{◌≤◌, ◌-◌, suc}
+use Rattle.gq_base.specs.Directions.{opposite}
 use Rattle.gq_marks.specs.Marking.{IsSpread}
-use Rattle.gq_store.specs.Neighbours.{opposite}
 use Rattle.gq_hops.specs.steps.Aims.{AreInside, IsAimed}
 use Rattle.gq_hops.proofs.aim.go_round.Given as goal
 

@@ -1,10 +1,11 @@
 use Rattle.std.proofs.Common.{◌≡◌, ◌∙◌, ◌+◌, ◌<◌, ◌&&◌, nat_lt, ℕ, List, length, false, sym, ap, subst, arith}
 use Rattle.std.specs.Prelude.{All, slice_index, slice_index_or}
+use Rattle.gq_base.specs.Directions.{opposite}
 use Rattle.gq_plan.proofs.StepEquations.{close_is}
 use Rattle.gq_plan.specs.Plans.{Close}
 use Rattle.gq_plan.specs.Rows.{rel_table}
 use Rattle.gq_plan.specs.declared.plan.Step as code
-use Rattle.gq_store.specs.Neighbours.{near_rows, neighbours, opposite}
+use Rattle.gq_store.specs.Neighbours.{near_rows, neighbours}
 use Rattle.gq_sift.specs.steps.Candidates.{leads_to}
 use Rattle.gq_steps.specs.Levels.{step_at}
 use Rattle.gq_steps.specs.Moves.{run_of}

@@ -1,13 +1,14 @@
 use Rattle.std.proofs.Common.{◌<◌, ◌^◌, ℕ, nat_lt, refl, subst, arith, length}
 use Rattle.std.specs.Prelude.{All, List}
 use Rattle.std.proofs.lemmas.Bool.{le-ltb}
+use Rattle.gq_base.specs.Directions.{opposite}
 use Rattle.gq_bits.specs.Places.{is_marked}
 use Rattle.gq_plan.specs.Rows.{rel_table}
 use Rattle.gq_sift.specs.steps.Numbers.{by_numbers}
 use Rattle.gq_sift.specs.Tested.{by_rows}
 use Rattle.gq_steps.specs.Moves.{run_of}
 use Rattle.gq_steps.proofs.Trying.{as_many_steps}
-use Rattle.gq_store.specs.Neighbours.{near_rows, opposite}
+use Rattle.gq_store.specs.Neighbours.{near_rows}
 use Rattle.gq_sift.proofs.Kept.{kept_from, kept_next, kept_to, kept_within}
 use Rattle.gq_sift.proofs.Listed.{can_list, listed, numbers_each, other_low}
 use Rattle.gq_sift.proofs.listing.drop_pairs.Goals as goal

@@ -1,5 +1,5 @@
 use Rattle.std.proofs.Common.{◌∙◌, sym, ap}
-use Rattle.gq_store.specs.Neighbours.{opposite}
+use Rattle.gq_base.specs.Directions.{opposite}
 use Rattle.gq_hops.specs.declared.follow.Follow.{Follow}
 use Rattle.gq_hops.proofs.Aiming.{no_bounds}
 use Rattle.gq_hops.proofs.Spreading.{opposite_twice}
@@ -19,7 +19,7 @@ invariant_of-result c =
       back = back.tables;
       back_graph = back.graph ∙ sym told.graph;
       back_kind = back.kind ∙ sym told.kind;
-      back_way = ap opposite (back.way ∙ c.opposite_way.ensures) ∙ opposite_twice c.args.part.now.way ∙ sym told.way;
+      back_way = ap opposite (back.way ∙ c.opposite.ensures) ∙ opposite_twice c.args.part.now.way ∙ sym told.way;
       aimed = λ n e. absurd (cc e);
       sought = tt;
     }
