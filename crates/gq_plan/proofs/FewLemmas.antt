@@ -1,11 +1,10 @@
 -- Reads that are taken one by one into a fixed room: where the different ones are not more than it has room for, they are all there.
-use Rattle.std.proofs.Common.{◌≡◌, ◌∙◌, ◌<◌, ◌≤◌, ◌+◌, ap, sym, refl, ℕ, Bool, true, false, cond, ◌||◌, List, [], ◌∷◌, ◌++◌, flat_map, length, drop, get_or, arith}
+use Rattle.std.proofs.Common.{◌≡◌, ◌∙◌, ◌≤◌, ◌<◌, ◌+◌, ℕ, get_or, take, ap, refl, Bool, true, false, cond, ◌||◌, List, [], ◌∷◌, ◌++◌, length, arith}
 use Rattle.std.proofs.Common.{length-append, nat_eq}
 use Rattle.std.specs.List.{list_any}
 use Rattle.std.proofs.lemmas.Bool.{eqb-true}
-use Rattle.gq_plan.proofs.FirstSteps.{first_of_rest}
-use Rattle.gq_plan.proofs.ReadLemmas.{reads_Literal, reads_Node, reads_Rel, reads_NodeProperty, reads_RelProperty, reads_TypeName, reads_Coalesce, reads_Negate, reads_Plus, reads_Not, reads_Or, reads_Xor, reads_And, reads_Compare, reads_Test, reads_Arith}
-use Rattle.gq_plan.specs.Reads.{Read, same_read, with_read, with_reads}
+use Rattle.gq_plan.specs.Reads.{Read, properties, same_read, with_read, with_reads}
+use Rattle.gq_plan.proofs.ReadLemmas.{properties_next}
 use Rattle.gq_plan.specs.Soundness.{max_reads}
 use Rattle.gq_plan.specs.steps.FewReads.{with_few, with_few_reads}
 
@@ -13,13 +12,9 @@ pub with_few_append : (rs qs ps : List Read) → with_few_reads rs (qs ++ ps) �
 with_few_append rs [] ps = refl
 with_few_append rs (q ∷ qs) ps = with_few_append (with_few rs q) qs ps
 
--- the reads of one more part
-pub few_more : {X : Type 0} (f : X → List Read) (rs after : List Read) (xs : List X) (i : ℕ) (x : X) → i < length xs → x ≡ get_or xs i x → after ≡ with_few_reads rs (f x)
-    → with_few_reads after (flat_map f (drop (i + 1) xs)) ≡ with_few_reads rs (flat_map f (drop i xs))
-few_more f rs after xs i x h is e =
-    ap (λ qs. with_few_reads qs (flat_map f (drop (i + 1) xs))) e
-    ∙ sym (with_few_append rs (f x) (flat_map f (drop (i + 1) xs)))
-    ∙ sym (ap (λ ys. with_few_reads rs (flat_map f ys)) (first_of_rest xs i x h is))
+pub few_next : (rs xs : List Read) (i : ℕ) (x : Read) → i < length xs → x ≡ get_or xs i x
+    → with_few_reads rs (properties (take (i + 1) xs)) ≡ with_few_reads (with_few_reads rs (properties (take i xs))) (properties (x ∷ []))
+few_next rs xs i x h is = ap (with_few_reads rs) (properties_next xs i x h is) ∙ with_few_append rs (properties (take i xs)) (properties (x ∷ []))
 
 -- ---- enough room
 
@@ -47,6 +42,3 @@ all_fit rs [] h = refl
 all_fit rs (q ∷ qs) h =
     let one = one_fits rs q (omega (arith, longer_all (with_read rs q) qs)) in
     ap (λ ps. with_few_reads ps qs) one ∙ all_fit (with_read rs q) qs h
-
--- what an expression reads, by one level, and into a fixed room
-pub ruleset equations = (with_few_append, reads_Literal, reads_Node, reads_Rel, reads_NodeProperty, reads_RelProperty, reads_TypeName, reads_Coalesce, reads_Negate, reads_Plus, reads_Not, reads_Or, reads_Xor, reads_And, reads_Compare, reads_Test, reads_Arith)

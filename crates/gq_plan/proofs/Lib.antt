@@ -9,7 +9,6 @@ pub mod Each
 pub mod FewLemmas
 pub mod FirstSteps
 pub mod Flats
-pub mod GroupReads
 pub mod Halved
 pub mod Keyed
 pub mod Marks

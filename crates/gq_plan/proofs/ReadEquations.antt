@@ -1,5 +1,5 @@
 -- What expressions read, variant by variant.
-use Rattle.std.proofs.Common.{◌≡◌, ℕ, List, [], ◌∷◌, ◌++◌, map, flat_map, refl, sym, ap, ◌∙◌}
+use Rattle.std.proofs.Common.{◌≡◌, ℕ, List, [], ◌∷◌, ◌++◌, map, flat_map, refl, sym, ap, ◌∙◌, append_assoc}
 use Rattle.gq_plan.specs.declared.variable.Variable.TheVariants.{Node as node, Rel as rel}
 use Rattle.std.proofs.lemmas.List.Folds.{flat_map-map}
 use Rattle.gq_base.specs.declared.ArithOp.{ArithOp}
@@ -83,3 +83,6 @@ reads_Test e ts =
     reads_at (Test e ts) (Expr-F.Test e ts) (outs-Test e ts)
     ∙ ap (λ us. reads e ++ flat_map tester_reads us) (sym (testers_map reads ts))
     ∙ ap (λ rs. reads e ++ rs) (flat_map-map tester_reads (tester_with reads) ts)
+
+-- all of them
+pub ruleset equations = (append_assoc, reads_Literal, reads_Node, reads_Rel, reads_NodeProperty, reads_RelProperty, reads_TypeName, reads_Coalesce, reads_Negate, reads_Plus, reads_Not, reads_Or, reads_Xor, reads_And, reads_Compare, reads_Test, reads_Arith)

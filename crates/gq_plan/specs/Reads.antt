@@ -5,6 +5,7 @@ use Rattle.std.specs.Cmp.Lexicographic.{pointwise}
 use Rattle.gq_expr.specs.declared.Expr.{Expr, Expr-F, fold-Expr}
 use Rattle.gq_expr.specs.declared.Tester.{Tester}
 use Rattle.gq_expr.specs.declared.Tester.TheVariants as tester
+use Rattle.gq_plan.specs.declared.read.Read as code
 use Rattle.gq_plan.specs.declared.variable.Variable.{Variable}
 use Rattle.gq_plan.specs.declared.variable.Variable.TheVariants.{Node as node, Rel as rel}
 
@@ -14,9 +15,8 @@ same_variable (rel m) (rel n) = nat_eq m n
 same_variable v w = false
 
 -- a variable, or a property of a variable
-pub record Read : Type 0 where
-  pub variable : Variable
-  pub property : Option (List ℕ)
+abbrev pub Read : Type 0
+Read = code.Read
 
 abbrev pub same_property : Option (List ℕ) → Option (List ℕ) → Bool
 same_property None None = true

@@ -1,20 +1,20 @@
 //! A query whose names are resolved.
 
+use crate::bound_expr::BoundExpr;
 use crate::typed::Typed;
 use gq_base::{Direction, List, Text};
-use gq_expr::Expr;
 
 /// An expression and what it is called.
 #[derive(Drop)]
 pub struct NamedExpr {
     pub name: Text,
-    pub expr: Expr,
+    pub expr: BoundExpr,
 }
 
 /// A key of ORDER BY.
 #[derive(Drop)]
 pub struct SortExpr {
-    pub expr: Expr,
+    pub expr: BoundExpr,
     /// Whether it sorts from the greatest to the least.
     pub down: bool,
 }

@@ -11,6 +11,7 @@ ghost use Rattle.gq_plan.specs.steps.Times.{times, one, is_once, same_demand};
 
 use crate::demand::Demand;
 use crate::fitting::fits;
+use crate::numbers::has_number;
 use crate::plan::{Plan, Step};
 use crate::typed::Typed;
 use gq_base::Catalog;
@@ -173,13 +174,7 @@ fn is_key(demand: Demand, keys: &[u32]) -> bool
     ensures { result ≡ cover.is_key keys.now demand }
 {
     match demand {
-        Demand::InTable(node) => has_key(keys, node),
+        Demand::InTable(node) => has_number(keys, node),
         _ => false,
     }
-}
-
-fn has_key(keys: &[u32], node: usize) -> bool
-    ensures { result ≡ has_number keys.now node }
-{
-    keys.iter().any(|key| *key as usize == node)
 }

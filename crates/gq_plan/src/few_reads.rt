@@ -1,18 +1,16 @@
 //! The first different properties of variables that the tests of a query read, in a fixed room: as
 //! many as the tests of a query may read.
 
-ghost use Rattle.std.specs.Prelude.{◌≡◌, [], flat_map};
+ghost use Rattle.std.specs.Prelude.{◌≡◌, [], ◌∷◌};
 ghost use Rattle.std.specs.List.{list_any};
-ghost use Rattle.gq_plan.specs.Reads as read;
-ghost use Rattle.gq_plan.specs.Reads.{property, properties, properties_of, same_read};
+ghost use Rattle.gq_plan.specs.Reads.{property, properties, same_read};
 ghost use Rattle.gq_plan.specs.steps.FewReads.{is_named, with_few, with_few_reads};
-ghost use Rattle.gq_plan.specs.steps.Reads.{tester_properties};
 
+use crate::read::Read;
 use crate::reads::is_variable;
 use crate::variable::Variable;
 use arrayvec::ArrayVec;
 use gq_base::Text;
-use gq_expr::{ArithOperand, CompareOperand, Expr, ExprTester, Tester};
 use std::marker::Model;
 
 /// The most different properties of variables that the tests of a query read.
@@ -80,81 +78,20 @@ fn is_name(own: Option<&Text>, name: &Text) -> bool
     }
 }
 
-// Takes all properties that an expression reads.
-#[cycle(add_all)]
-#[tactic(auto, using(crate::proofs::FewLemmas::equations))]
-pub(crate) fn add_all<'e>(reads: &mut FewReads<'e>, expr: &'e Expr)
-    ensures { reads.new.items ≡ with_few_reads reads.old.items (properties (read.reads expr.now)) }
+// Takes what is read, where it is a property.
+fn add_read<'e>(reads: &mut FewReads<'e>, read: &'e Read)
+    ensures { reads.new.items ≡ with_few_reads reads.old.items (properties (read.now ∷ [])) }
 {
-    match expr {
-        Expr::Literal(_) => {}
-        Expr::Node(_) => {}
-        Expr::Rel(_) => {}
-        Expr::NodeProperty(variable, name) => add(reads, Variable::Node(*variable), name),
-        Expr::RelProperty(variable, name) => add(reads, Variable::Rel(*variable), name),
-        Expr::TypeName(inner) => add_all(reads, inner.get()),
-        Expr::Coalesce(all) => add_each(reads, all.as_slice()),
-        Expr::Negate(inner) => add_all(reads, inner.get()),
-        Expr::Plus(inner) => add_all(reads, inner.get()),
-        Expr::Not(inner) => add_all(reads, inner.get()),
-        Expr::Or(all) => add_each(reads, all.as_slice()),
-        Expr::Xor(all) => add_each(reads, all.as_slice()),
-        Expr::And(all) => add_each(reads, all.as_slice()),
-        Expr::Compare(first, terms) => {
-            add_all(reads, first.get());
-            add_compares(reads, terms.as_slice());
-        }
-        Expr::Test(first, testers) => {
-            add_all(reads, first.get());
-            add_testers(reads, testers.as_slice());
-        }
-        Expr::Arith(first, terms) => {
-            add_all(reads, first.get());
-            add_ariths(reads, terms.as_slice());
-        }
+    if let Some(name) = &read.property {
+        add(reads, read.variable, name);
     }
 }
 
-#[cycle(add_all)]
-fn add_each<'e>(reads: &mut FewReads<'e>, all: &'e [Expr])
-    ensures { reads.new.items ≡ with_few_reads reads.old.items (flat_map properties_of all.now) }
+// Takes the properties among what an expression reads.
+pub(crate) fn add_all<'e>(reads: &mut FewReads<'e>, all: &'e [Read])
+    ensures { reads.new.items ≡ with_few_reads reads.old.items (properties all.now) }
 {
-    for part in all {
-        add_all(reads, part);
-    }
-}
-
-#[cycle(add_all)]
-fn add_compares<'e>(reads: &mut FewReads<'e>, terms: &'e [CompareOperand])
-    ensures { reads.new.items
-        ≡ with_few_reads reads.old.items (flat_map (λ t. properties_of t.expr) terms.now) }
-{
-    for term in terms {
-        add_all(reads, &term.expr);
-    }
-}
-
-#[cycle(add_all)]
-fn add_ariths<'e>(reads: &mut FewReads<'e>, terms: &'e [ArithOperand])
-    ensures { reads.new.items
-        ≡ with_few_reads reads.old.items (flat_map (λ t. properties_of t.expr) terms.now) }
-{
-    for term in terms {
-        add_all(reads, &term.expr);
-    }
-}
-
-#[cycle(add_all)]
-fn add_testers<'e>(reads: &mut FewReads<'e>, testers: &'e [ExprTester])
-    ensures { reads.new.items
-        ≡ with_few_reads reads.old.items (flat_map tester_properties testers.now) }
-{
-    for tester in testers {
-        match tester {
-            Tester::IsNull => {}
-            Tester::IsNotNull => {}
-            Tester::Member(_) => {}
-            Tester::Text(_, part) => add_all(reads, part),
-        }
+    for read in all {
+        add_read(reads, read);
     }
 }

@@ -8,11 +8,11 @@ ghost use Rattle.gq_plan.specs.Covers.{is_new, is_joined, goes, start_of, end_of
 ghost use Rattle.gq_plan.specs.Covers.{pair_bound, loop_bound, Fits};
 ghost use Rattle.gq_plan.specs.Known.{known_of, none, with_node, with_rel, with_both};
 ghost use Rattle.gq_plan.specs.Meaning.{holds};
-ghost use Rattle.gq_plan.specs.Soundness as soundness;
 ghost use Rattle.gq_plan.specs.Soundness.{IsSound, has_number, max_variables};
 ghost use Rattle.gq_plan.specs.Plans.{plan_of, step_of};
 
 use crate::known::Known;
+use crate::numbers::has_number;
 use crate::plan::{Plan, Step};
 use crate::typed::{Typed, TypedRel};
 use gq_base::{Catalog, Direction};
@@ -256,7 +256,7 @@ fn shares_keys(side: Known, keys: &[u32], nodes: u32, known: Known) -> bool
         (range_with_len 0 nodes) }
 {
     (0..nodes).all(|node| {
-        !(side.nodes.has(node) && known.nodes.has(node)) || has_number(keys, node)
+        !(side.nodes.has(node) && known.nodes.has(node)) || has_number(keys, node as usize)
     })
 }
 
@@ -266,13 +266,6 @@ fn shares_none(side: Known, rels: u32, known: Known) -> bool
         (range_with_len 0 rels) }
 {
     (0..rels).all(|rel| !(side.rels.has(rel) && known.rels.has(rel)))
-}
-
-/// Whether a number stands among others.
-pub fn has_number(numbers: &[u32], number: u32) -> bool
-    ensures { result ≡ soundness.has_number numbers.now number }
-{
-    numbers.iter().any(|own| *own == number)
 }
 
 fn has_test(test: u32, typed: &Typed, known: Known) -> bool

@@ -1,12 +1,11 @@
 //! The variables that a plan has bound.
 ghost use Rattle.std.specs.Prelude.{◌≡◌, ◌<◌, ◌||◌, false, nat_eq};
-ghost use Rattle.std.specs.List.{list_all};
 ghost use Rattle.gq_plan.specs.Known as known;
-ghost use Rattle.gq_plan.specs.Known.{set_of, known_of, with_both, reads_bound};
-ghost use Rattle.gq_plan.specs.steps.Known.{tester_bound};
+ghost use Rattle.gq_plan.specs.Known.{set_of, known_of, with_both, is_bound, reads_bound};
 ghost use Rattle.gq_plan.specs.Soundness.{max_variables};
 
-use gq_expr::{ArithOperand, CompareOperand, Expr, ExprTester, Tester};
+use crate::bound_expr::BoundExpr;
+use crate::variable::Variable;
 
 /// The most node variables, and the most relationships, of a query.
 pub const MAX_VARIABLES: usize = 24;
@@ -81,89 +80,20 @@ impl Known {
         self.rels.insert_all(other.rels);
     }
 
+    /// Whether a variable is bound.
+    pub fn has(self, variable: Variable) -> bool
+        ensures { result ≡ is_bound (known_of self) variable }
+    {
+        match variable {
+            Variable::Node(node) => self.nodes.has(node),
+            Variable::Rel(rel) => self.rels.has(rel),
+        }
+    }
+
     /// Whether all variables that an expression reads are bound.
-    #[cycle(binds_all)]
-    #[tactic(auto, using(crate::proofs::BoundReads::equations))]
-    pub fn binds_all(self, expr: &Expr) -> bool
+    pub fn binds_all(self, expr: &BoundExpr) -> bool
         ensures { result ≡ reads_bound (known_of self) expr.now }
     {
-        match expr {
-            Expr::Literal(_) => true,
-            Expr::Node(node) => self.nodes.has(*node),
-            Expr::Rel(rel) => self.rels.has(*rel),
-            Expr::NodeProperty(node, _) => self.nodes.has(*node),
-            Expr::RelProperty(rel, _) => self.rels.has(*rel),
-            Expr::TypeName(inner) => self.binds_all(inner.get()),
-            Expr::Coalesce(all) => self.binds_each(all.as_slice()),
-            Expr::Negate(inner) => self.binds_all(inner.get()),
-            Expr::Plus(inner) => self.binds_all(inner.get()),
-            Expr::Not(inner) => self.binds_all(inner.get()),
-            Expr::Or(all) => self.binds_each(all.as_slice()),
-            Expr::Xor(all) => self.binds_each(all.as_slice()),
-            Expr::And(all) => self.binds_each(all.as_slice()),
-            Expr::Compare(first, terms) => {
-                self.binds_all(first.get()) && self.binds_compares(terms.as_slice())
-            }
-            Expr::Test(first, testers) => {
-                self.binds_all(first.get()) && self.binds_testers(testers.as_slice())
-            }
-            Expr::Arith(first, terms) => {
-                self.binds_all(first.get()) && self.binds_ariths(terms.as_slice())
-            }
-        }
-    }
-
-    #[cycle(binds_all)]
-    fn binds_each(self, all: &[Expr]) -> bool
-        ensures { result ≡ list_all (reads_bound (known_of self)) all.now }
-    {
-        for part in all {
-            if !self.binds_all(part) {
-                return false;
-            }
-        }
-        true
-    }
-
-    #[cycle(binds_all)]
-    fn binds_compares(self, terms: &[CompareOperand]) -> bool
-        ensures { result ≡ list_all (λ t. reads_bound (known_of self) t.expr) terms.now }
-    {
-        for term in terms {
-            if !self.binds_all(&term.expr) {
-                return false;
-            }
-        }
-        true
-    }
-
-    #[cycle(binds_all)]
-    fn binds_ariths(self, terms: &[ArithOperand]) -> bool
-        ensures { result ≡ list_all (λ t. reads_bound (known_of self) t.expr) terms.now }
-    {
-        for term in terms {
-            if !self.binds_all(&term.expr) {
-                return false;
-            }
-        }
-        true
-    }
-
-    #[cycle(binds_all)]
-    fn binds_testers(self, testers: &[ExprTester]) -> bool
-        ensures { result ≡ list_all (tester_bound (known_of self)) testers.now }
-    {
-        for tester in testers {
-            let bound = match tester {
-                Tester::IsNull => true,
-                Tester::IsNotNull => true,
-                Tester::Member(_) => true,
-                Tester::Text(_, part) => self.binds_all(part),
-            };
-            if !bound {
-                return false;
-            }
-        }
-        true
+        expr.reads().iter().all(|read| self.has(read.variable))
     }
 }

@@ -4,14 +4,16 @@ ghost use Rattle.std.specs.Prelude.{◌≡◌, ◌+◌, ◌^◌, ◌<◌, ◌≤
 ghost use Rattle.gq_plan.specs.Columns.{FitsSound, binds};
 ghost use Rattle.gq_plan.specs.Plans.{plan_of, step_of};
 ghost use Rattle.gq_plan.specs.Shapes as shapes;
-ghost use Rattle.gq_plan.specs.Shapes.{groups_of, places_of, put, put_all};
+ghost use Rattle.gq_plan.specs.Shapes.{group_of, groups_of, places_of, put, put_all};
 ghost use Rattle.gq_plan.specs.Soundness.{has_number, max_variables};
 ghost use Rattle.gq_plan.specs.steps.Places.{IsNamed, binds_rel, step_binds_rel};
 
-use crate::filling::{binds, has_number};
+use crate::filling::binds;
 use crate::known::MAX_VARIABLES;
+use crate::numbers::has_number;
 use crate::plan::{Plan, Step};
 use crate::typed::Typed;
+use crate::variable::Variable;
 
 /// The group of each variable of one kind; 0 where it stands in none.
 #[derive(Clone, Copy)]
@@ -80,6 +82,16 @@ pub struct Places {
 }
 
 impl Places {
+    /// The group of a variable.
+    pub fn of(self, variable: Variable) -> usize
+        ensures { result ≡ group_of (places_of self) variable }
+    {
+        match variable {
+            Variable::Node(node) => self.nodes.of(node),
+            Variable::Rel(rel) => self.rels.of(rel),
+        }
+    }
+
     // No groups.
     fn nowhere() -> Places
         ensures { places_of result ≡ shapes.nowhere }

@@ -1,14 +1,14 @@
 //! The properties of variables that expressions read.
-ghost use Rattle.std.specs.Prelude.{◌≡◌, ◌&&◌, [], length, flat_map, IfOk};
+ghost use Rattle.std.specs.Prelude.{◌≡◌, ◌&&◌, [], ◌∷◌, length, IfOk};
 ghost use Rattle.std.specs.List.{list_any};
 ghost use Rattle.gq_plan.specs.Reads as reads;
-ghost use Rattle.gq_plan.specs.Reads.{property, properties, properties_of};
-ghost use Rattle.gq_plan.specs.steps.Reads.{tester_properties};
+ghost use Rattle.gq_plan.specs.Reads.{property, properties};
 ghost use Rattle.gq_plan.specs.Reads.{same_read, with_read, with_reads};
 
+use crate::bound_expr::BoundExpr;
+use crate::read::Read;
 use crate::variable::Variable;
 use gq_base::{List, Memory, Text};
-use gq_expr::{ArithOperand, CompareOperand, Expr, ExprTester, Tester};
 use std::alloc::Global;
 use std::collections::BTreeSet;
 use std::marker::Model;
@@ -99,87 +99,24 @@ impl<'e> PropertyReads<'e> {
         self.reads.push(PropertyRead { variable, name })
     }
 
+    // Takes what is read, where it is a property.
+    fn add_read(&mut self, read: &'e Read) -> Result<(), Memory>
+        ensures { IfOk result (λ _.
+            self.new ≡ with_reads self.old (properties (read.now ∷ []))) }
+    {
+        match &read.property {
+            Some(name) => self.add(read.variable, name),
+            None => Ok(()),
+        }
+    }
+
     /// Takes all properties that an expression reads.
-    #[cycle(add_all)]
-    #[tactic(auto, using(crate::proofs::ReadLemmas::equations))]
-    pub fn add_all(&mut self, expr: &'e Expr) -> Result<(), Memory>
+    pub fn add_all(&mut self, expr: &'e BoundExpr) -> Result<(), Memory>
         ensures { IfOk result (λ _.
             self.new ≡ with_reads self.old (properties (reads.reads expr.now))) }
     {
-        match expr {
-            Expr::Literal(_) => Ok(()),
-            Expr::Node(_) => Ok(()),
-            Expr::Rel(_) => Ok(()),
-            Expr::NodeProperty(variable, name) => self.add(Variable::Node(*variable), name),
-            Expr::RelProperty(variable, name) => self.add(Variable::Rel(*variable), name),
-            Expr::TypeName(inner) => self.add_all(inner.get()),
-            Expr::Coalesce(all) => self.add_each(all.as_slice()),
-            Expr::Negate(inner) => self.add_all(inner.get()),
-            Expr::Plus(inner) => self.add_all(inner.get()),
-            Expr::Not(inner) => self.add_all(inner.get()),
-            Expr::Or(all) => self.add_each(all.as_slice()),
-            Expr::Xor(all) => self.add_each(all.as_slice()),
-            Expr::And(all) => self.add_each(all.as_slice()),
-            Expr::Compare(first, terms) => {
-                self.add_all(first.get())?;
-                self.add_compares(terms.as_slice())
-            }
-            Expr::Test(first, testers) => {
-                self.add_all(first.get())?;
-                self.add_testers(testers.as_slice())
-            }
-            Expr::Arith(first, terms) => {
-                self.add_all(first.get())?;
-                self.add_ariths(terms.as_slice())
-            }
-        }
-    }
-
-    #[cycle(add_all)]
-    fn add_each(&mut self, all: &'e [Expr]) -> Result<(), Memory>
-        ensures { IfOk result (λ _.
-            self.new ≡ with_reads self.old (flat_map properties_of all.now)) }
-    {
-        for part in all {
-            self.add_all(part)?;
-        }
-        Ok(())
-    }
-
-    #[cycle(add_all)]
-    fn add_compares(&mut self, terms: &'e [CompareOperand]) -> Result<(), Memory>
-        ensures { IfOk result (λ _.
-            self.new ≡ with_reads self.old (flat_map (λ t. properties_of t.expr) terms.now)) }
-    {
-        for term in terms {
-            self.add_all(&term.expr)?;
-        }
-        Ok(())
-    }
-
-    #[cycle(add_all)]
-    fn add_ariths(&mut self, terms: &'e [ArithOperand]) -> Result<(), Memory>
-        ensures { IfOk result (λ _.
-            self.new ≡ with_reads self.old (flat_map (λ t. properties_of t.expr) terms.now)) }
-    {
-        for term in terms {
-            self.add_all(&term.expr)?;
-        }
-        Ok(())
-    }
-
-    #[cycle(add_all)]
-    fn add_testers(&mut self, testers: &'e [ExprTester]) -> Result<(), Memory>
-        ensures { IfOk result (λ _.
-            self.new ≡ with_reads self.old (flat_map tester_properties testers.now)) }
-    {
-        for tester in testers {
-            match tester {
-                Tester::IsNull => {}
-                Tester::IsNotNull => {}
-                Tester::Member(_) => {}
-                Tester::Text(_, part) => self.add_all(part)?,
-            }
+        for read in expr.reads() {
+            self.add_read(read)?;
         }
         Ok(())
     }

@@ -1,19 +1,18 @@
 //! The groups of a plan: what form each has, and which of them are flat.
 
 ghost use Rattle.std.specs.Prelude.{◌≡◌, [], ◌∷◌, ◌++◌, IfOk};
-ghost use Rattle.std.specs.Prelude.{filter, flat_map, length, map, nat_lt, slice_get};
+ghost use Rattle.std.specs.Prelude.{filter, length, map, nat_lt, slice_get};
 ghost use Rattle.gq_plan.specs.Columns.{FitsSound};
 ghost use Rattle.gq_plan.specs.Plans.{plan_of, step_of};
 ghost use Rattle.gq_plan.specs.Shapes as plan_groups;
 ghost use Rattle.gq_plan.specs.Shapes.{all_flat, flat_by, places_of, shape_with};
 ghost use Rattle.gq_plan.specs.Soundness as soundness;
-ghost use Rattle.gq_plan.specs.steps.Groups.{read_groups, tester_groups};
 
 use crate::places::{Places, place_variables};
 use crate::plan::{Plan, Step};
+use crate::read::Read;
 use crate::typed::Typed;
 use gq_base::{List, Memory};
-use gq_expr::{ArithOperand, CompareOperand, Expr, ExprTester, Tester};
 use std::alloc::Global;
 
 /// What the pieces of a group are.
@@ -106,18 +105,9 @@ pub fn flat_groups(
     let mut groups = List::new(alloc);
     for step in plan.steps.as_slice() {
         let own = flat_by(alloc, step, typed, places)?;
-        append(&mut groups, own.as_slice())?;
+        groups.extend(own.as_slice())?;
     }
     Ok(groups)
-}
-
-fn append(groups: &mut List<usize>, more: &[usize]) -> Result<(), Memory>
-    ensures { IfOk result (λ _. groups.new ≡ groups.old ++ more.now) }
-{
-    for group in more {
-        groups.push(*group)?;
-    }
-    Ok(())
 }
 
 // The groups that are flat because of a step.
@@ -229,9 +219,19 @@ fn test_groups(
     ensures { IfOk result (λ groups. groups
         ≡ plan_groups.test_groups (places_of places) (slice_get typed.now.tests test)) }
 {
+    match typed.tests.get(test as usize) {
+        None => Ok(List::new(alloc)),
+        Some(found) => read_groups(alloc, found.expr.reads(), places),
+    }
+}
+
+fn read_groups(alloc: Global, reads: &[Read], places: Places) -> Result<List<usize>, Memory>
+    ensures { IfOk result (λ groups. groups
+        ≡ map (λ r. plan_groups.group_of (places_of places) r.variable) reads.now) }
+{
     let mut groups = List::new(alloc);
-    if let Some(found) = typed.tests.get(test as usize) {
-        add_groups(&mut groups, &found.expr, places)?;
+    for read in reads {
+        groups.push(places.of(read.variable))?;
     }
     Ok(groups)
 }
@@ -270,101 +270,4 @@ fn loop_groups(
         groups.push(places.nodes.of(found.target))?;
     }
     Ok(groups)
-}
-
-// Takes the groups of all variables that an expression reads, from left to right.
-#[cycle(add_groups)]
-#[tactic(auto, using(crate::proofs::GroupReads::equations))]
-fn add_groups(groups: &mut List<usize>, expr: &Expr, places: Places) -> Result<(), Memory>
-    ensures { IfOk result (λ _.
-        groups.new ≡ groups.old ++ read_groups (places_of places) expr.now) }
-{
-    match expr {
-        Expr::Literal(_) => Ok(()),
-        Expr::Node(node) => groups.push(places.nodes.of(*node)),
-        Expr::Rel(rel) => groups.push(places.rels.of(*rel)),
-        Expr::NodeProperty(node, _) => groups.push(places.nodes.of(*node)),
-        Expr::RelProperty(rel, _) => groups.push(places.rels.of(*rel)),
-        Expr::TypeName(inner) => add_groups(groups, inner.get(), places),
-        Expr::Coalesce(all) => add_each(groups, all.as_slice(), places),
-        Expr::Negate(inner) => add_groups(groups, inner.get(), places),
-        Expr::Plus(inner) => add_groups(groups, inner.get(), places),
-        Expr::Not(inner) => add_groups(groups, inner.get(), places),
-        Expr::Or(all) => add_each(groups, all.as_slice(), places),
-        Expr::Xor(all) => add_each(groups, all.as_slice(), places),
-        Expr::And(all) => add_each(groups, all.as_slice(), places),
-        Expr::Compare(first, terms) => {
-            add_groups(groups, first.get(), places)?;
-            add_compares(groups, terms.as_slice(), places)
-        }
-        Expr::Test(first, testers) => {
-            add_groups(groups, first.get(), places)?;
-            add_testers(groups, testers.as_slice(), places)
-        }
-        Expr::Arith(first, terms) => {
-            add_groups(groups, first.get(), places)?;
-            add_ariths(groups, terms.as_slice(), places)
-        }
-    }
-}
-
-#[cycle(add_groups)]
-fn add_each(groups: &mut List<usize>, all: &[Expr], places: Places) -> Result<(), Memory>
-    ensures { IfOk result (λ _. groups.new
-        ≡ groups.old ++ flat_map (read_groups (places_of places)) all.now) }
-{
-    for part in all {
-        add_groups(groups, part, places)?;
-    }
-    Ok(())
-}
-
-#[cycle(add_groups)]
-fn add_compares(
-    groups: &mut List<usize>,
-    terms: &[CompareOperand],
-    places: Places,
-) -> Result<(), Memory>
-    ensures { IfOk result (λ _. groups.new
-        ≡ groups.old ++ flat_map (λ t. read_groups (places_of places) t.expr) terms.now) }
-{
-    for term in terms {
-        add_groups(groups, &term.expr, places)?;
-    }
-    Ok(())
-}
-
-#[cycle(add_groups)]
-fn add_ariths(
-    groups: &mut List<usize>,
-    terms: &[ArithOperand],
-    places: Places,
-) -> Result<(), Memory>
-    ensures { IfOk result (λ _. groups.new
-        ≡ groups.old ++ flat_map (λ t. read_groups (places_of places) t.expr) terms.now) }
-{
-    for term in terms {
-        add_groups(groups, &term.expr, places)?;
-    }
-    Ok(())
-}
-
-#[cycle(add_groups)]
-fn add_testers(
-    groups: &mut List<usize>,
-    testers: &[ExprTester],
-    places: Places,
-) -> Result<(), Memory>
-    ensures { IfOk result (λ _. groups.new
-        ≡ groups.old ++ flat_map (tester_groups (places_of places)) testers.now) }
-{
-    for tester in testers {
-        match tester {
-            Tester::IsNull => {}
-            Tester::IsNotNull => {}
-            Tester::Member(_) => {}
-            Tester::Text(_, part) => add_groups(groups, part, places)?,
-        }
-    }
-    Ok(())
 }

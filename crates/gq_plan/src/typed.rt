@@ -1,7 +1,8 @@
 //! A typed alternative of a query: one table for each node variable, one table and one direction for each relationship.
 
 use crate::bound::NamedExpr;
-use gq_base::List;
+use gq_base::{List, Memory, TryClone};
+use std::alloc::Global;
 
 /// A relationship of an alternative.
 #[derive(Clone, Copy, Debug, PartialEq, Eq)]
@@ -27,6 +28,15 @@ pub struct PathPart {
     pub first: u32,
     /// Its relationships from left to right.
     pub rels: List<u32>,
+}
+
+impl TryClone for PathPart {
+    fn try_clone(&self, alloc: Global) -> Result<PathPart, Memory> {
+        Ok(PathPart {
+            first: self.first,
+            rels: self.rels.try_clone(alloc)?,
+        })
+    }
 }
 
 /// Two relationships that are to be different, the first one less than the second.

@@ -22,7 +22,7 @@ loop-step-preserved c =
     let rest = all_flat y p (steps (map step_of (drop (c.loop-step.step-index + 1) items))) in
     record {
       items = c.loop-step.invariant.items;
-      groups = ap (λ gs. gs ++ rest) c.in_ok-append.ensures ∙ append_assoc c.loop-step.groups c.as_slice.result.now rest
+      groups = ap (λ gs. gs ++ rest) c.in_ok-extend.ensures.extended ∙ append_assoc c.loop-step.groups c.as_slice.result.now rest
           ∙ ap (λ gs. c.loop-step.groups ++ (gs ++ rest)) (c.as_slice.ensures ∙ c.in_ok-own.ensures)
           ∙ ap (λ gs. c.loop-step.groups ++ gs) (sym (first y p items c.loop-step.step-index c.step-item.result c.loop-step-test.true c.step-item.is))
           ∙ c.loop-step.invariant.groups;
