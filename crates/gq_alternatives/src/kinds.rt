@@ -2,10 +2,9 @@
 ghost use Rattle.std.specs.Prelude.{◌≡◌, [], ◌∷◌, IfOk};
 ghost use Rattle.gq_plan.specs.Soundness as soundness;
 
-use gq_base::{Catalog, Field, List, Memory};
+use gq_base::{Catalog, List, Memory, copy_all};
 use gq_expr::{FieldList, Kinds};
 use gq_plan::TypedRel;
-use gq_scopes::copy_text;
 use std::alloc::Global;
 
 /// The fields that tables give each variable: copies of those of the variable's table.
@@ -51,7 +50,7 @@ fn node_fields(alloc: Global, catalog: &Catalog, table: u32) -> Result<FieldList
         fs ∷ [] ≡ (soundness.kinds_for catalog.now (table ∷ []) []).nodes) }
 {
     if table < catalog.node_tables() {
-        copy_fields(alloc, catalog.node_table(table).fields.as_slice())
+        copy_all(alloc, catalog.node_table(table).fields.as_slice())
     } else {
         Ok(List::new(alloc))
     }
@@ -63,22 +62,8 @@ fn rel_fields(alloc: Global, catalog: &Catalog, rel: &TypedRel) -> Result<FieldL
         fs ∷ [] ≡ (soundness.kinds_for catalog.now [] (rel.now ∷ [])).rels) }
 {
     if rel.table < catalog.rel_tables() {
-        copy_fields(alloc, catalog.rel_table(rel.table).fields.as_slice())
+        copy_all(alloc, catalog.rel_table(rel.table).fields.as_slice())
     } else {
         Ok(List::new(alloc))
     }
-}
-
-fn copy_fields(alloc: Global, fields: &[Field]) -> Result<FieldList, Memory>
-    ensures { IfOk result (λ fs. fs ≡ fields.now) }
-{
-    let mut copies = List::new(alloc);
-    for field in fields {
-        let name = copy_text(alloc, &field.name)?;
-        copies.push(Field {
-            name,
-            kind: field.kind,
-        })?;
-    }
-    Ok(copies)
 }

@@ -8,10 +8,10 @@ ghost use Rattle.gq_alternatives.specs.Matches.{pairs_from, pairs_with};
 use crate::choice::{Choice, Reading};
 use crate::kinds::kinds_for;
 use gq_ast::Arrow;
-use gq_base::{Catalog, List, Memory};
+use gq_base::{Catalog, List, Memory, TryClone, copy_all};
 use gq_expr::{Kinds, can_fault};
-use gq_plan::{NamedExpr, PathPart, RelPair, Typed, TypedRel};
-use gq_scopes::{Copying, Pattern, RelPattern, copy_part, copy_text, next};
+use gq_plan::{NamedExpr, RelPair, Typed, TypedRel};
+use gq_scopes::{Copying, Pattern, RelPattern, copy_named, next};
 use std::alloc::Global;
 
 /// An alternative of patterns with its tests, late conjuncts and pairs: the entries of the
@@ -76,8 +76,8 @@ fn typed_with(
           pairs = filter (alternatives.one_table readings) (pairs_from 0 pattern.now.rels);
         }) }
 {
-    let nodes = copy_numbers(alloc, choice.tables.as_slice())?;
-    let paths = copy_paths(alloc, pattern.paths())?;
+    let nodes = choice.tables.try_clone(alloc)?;
+    let paths = copy_all(alloc, pattern.paths())?;
     let pairs = pairs_of(alloc, pattern.rels(), choice.readings.as_slice())?;
     let Conditions { tests, late } = conditions;
     Ok(Typed {
@@ -149,40 +149,6 @@ fn typed_rels(
     Ok(rels)
 }
 
-/// A copy of numbers.
-pub fn copy_numbers(alloc: Global, numbers: &[u32]) -> Result<List<u32>, Memory>
-    ensures { IfOk result (λ ns. ns ≡ numbers.now) }
-{
-    match Vec::from_slice(alloc, numbers) {
-        Ok(copied) => Ok(List::from_vec(copied)),
-        Err(_) => Err(Memory::Exhausted),
-    }
-}
-
-fn copy_paths(alloc: Global, paths: &[PathPart]) -> Result<List<PathPart>, Memory>
-    ensures { IfOk result (λ ps. ps ≡ paths.now) }
-{
-    let mut copies = List::new(alloc);
-    for path in paths {
-        let rels = copy_numbers(alloc, path.rels.as_slice())?;
-        copies.push(PathPart {
-            first: path.first,
-            rels,
-        })?;
-    }
-    Ok(copies)
-}
-
-fn copy_named(alloc: Global, copying: &mut Copying, named: &NamedExpr) -> Result<NamedExpr, Memory>
-    ensures { IfOk result (λ n. n ≡ named.now) }
-{
-    copying.take_name(&named.name)?;
-    Ok(NamedExpr {
-        name: copy_text(alloc, &named.name)?,
-        expr: copy_part(alloc, copying, &named.expr)?,
-    })
-}
-
 fn copy_all_named(
     alloc: Global,
     copying: &mut Copying,
@@ -211,7 +177,7 @@ fn tests_of(
 {
     let mut tests = copy_all_named(alloc, copying, entries)?;
     for conjunct in conjuncts {
-        if !can_fault(&conjunct.expr, kinds) {
+        if !can_fault(conjunct.expr.get(), kinds) {
             let copied = copy_named(alloc, copying, conjunct)?;
             tests.push(copied)?;
         }
@@ -226,7 +192,7 @@ fn late_of(alloc: Global, kinds: &Kinds, conjuncts: &[NamedExpr]) -> Result<List
     let mut late = List::new(alloc);
     let mut number = 0;
     for conjunct in conjuncts {
-        if can_fault(&conjunct.expr, kinds) {
+        if can_fault(conjunct.expr.get(), kinds) {
             late.push(number)?;
         }
         number = next(number)?;

@@ -21,12 +21,12 @@ use crate::parts::read_query;
 use crate::trails::put_cored;
 use gq_alternatives::{Choice, typed};
 use gq_ast::{Query, Sort};
-use gq_base::{Catalog, List, Memory, Text};
+use gq_base::{Catalog, List, Memory};
 use gq_bound::{BindRefusal, QueryParts};
-use gq_core::{Core, core_of};
-use gq_plan::{Bound, NamedExpr, SortExpr, Typed};
+use gq_core::{Core, core_of, push_texts};
+use gq_plan::{Bound, BoundExpr, NamedExpr, SortExpr, Typed};
 use gq_resolve::{CallForm, resolve_part};
-use gq_scopes::{Copying, Pattern, Scope, copy_text};
+use gq_scopes::{Copying, Pattern, Scope};
 use std::alloc::Global;
 use std::mem;
 
@@ -261,7 +261,7 @@ fn push_known_keys(
             continue;
         };
         keys.push(SortExpr {
-            expr,
+            expr: BoundExpr::new(alloc, expr)?,
             down: sort.down,
         })?;
     }
@@ -318,17 +318,6 @@ pub fn push_typed(
     for choice in choices {
         let alternative = typed(alloc, copying, catalog, pattern, entries, conjuncts, choice)?;
         all.push(alternative)?;
-    }
-    Ok(())
-}
-
-/// Appends copies of texts.
-pub fn push_texts(alloc: Global, texts: &[Text], all: &mut List<Text>) -> Result<(), Memory>
-    ensures { OnOk result (all.new ≡ all.old ++ texts.now) }
-{
-    for text in texts {
-        let copied = copy_text(alloc, text)?;
-        all.push(copied)?;
     }
     Ok(())
 }

@@ -11,8 +11,9 @@ use crate::order::{ambiguous_order_name, order_out_of_scope};
 use crate::pattern_counts::too_many_patterns;
 use crate::read_counts::too_many_reads;
 use gq_ast::Query;
+use gq_base::TryClone;
 use gq_bound::{BindRefusal, QueryParts};
-use gq_scopes::{Column, NamedVariable, Names, copy_text};
+use gq_scopes::{Column, NamedVariable, Names};
 use std::alloc::Global;
 
 const MAX_COLUMNS: usize = 64;
@@ -52,7 +53,7 @@ fn column_repeated(alloc: Global, columns: &[Column]) -> Result<(), BindRefusal>
     let mut met = Names::new(alloc);
     for column in columns {
         if met.contains(&column.name) {
-            let name = copy_text(alloc, &column.name)?;
+            let name = column.name.try_clone(alloc)?;
             return Err(BindRefusal::ColumnRepeated { name });
         }
         met.push_name(&column.name)?;

@@ -9,11 +9,11 @@ ghost use Rattle.gq_resolve.specs.Resolving.{calls_of};
 ghost use Rattle.gq_ast.specs.Spans.{IsWholeTree};
 
 use gq_ast::{Item, Query};
-use gq_base::{List, Memory, Text};
+use gq_base::{List, Memory, Text, TryClone};
 use gq_expr::Expr;
-use gq_plan::NamedExpr;
+use gq_plan::{BoundExpr, NamedExpr};
 use gq_resolve::{CallForm, resolve, source_text};
-use gq_scopes::{Column, NamedVariable, Names, Pattern, Scope, Variable, copy_text};
+use gq_scopes::{Column, NamedVariable, Names, Pattern, Scope, Variable};
 use std::alloc::Global;
 use std::mem;
 
@@ -75,7 +75,7 @@ fn column(alloc: Global, variable: &NamedVariable<'_>) -> Result<Column, Memory>
     ensures { IfOk result (λ c. c ≡ column_of variable.now) }
 {
     Ok(Column {
-        name: copy_text(alloc, variable.name)?,
+        name: variable.name.try_clone(alloc)?,
         expr: Some(whole(variable.variable)),
     })
 }
@@ -115,7 +115,7 @@ fn name_of(alloc: Global, text: &[u8], item: &Item) -> Result<Text, Memory>
     ensures { IfOk result (λ t. t ≡ item_name text.now item.now) }
 {
     match &item.name {
-        Some(name) => copy_text(alloc, name),
+        Some(name) => name.try_clone(alloc),
         None => source_text(alloc, text, item.tree.span),
     }
 }
@@ -134,6 +134,7 @@ pub fn push_known(
         let Some(expr) = expr else {
             continue;
         };
+        let expr = BoundExpr::new(alloc, expr)?;
         known.push(NamedExpr { name, expr })?;
     }
     Ok(())

@@ -14,10 +14,10 @@ ghost use Rattle.gq_ast.specs.Spans.{IsWholeTree};
 
 use crate::columns::push_columns;
 use gq_ast::{Ast, Query, Sort};
-use gq_base::{List, Memory, Text};
+use gq_base::{List, Memory, Text, TryClone};
 use gq_bound::BindRefusal;
 use gq_resolve::{CallForm, Check, ColumnExprs, Renamed, first_refused, resolve_part};
-use gq_scopes::{Column, Copying, Pattern, Scope, copy_text, next};
+use gq_scopes::{Column, Copying, Pattern, Scope, next};
 use std::alloc::Global;
 
 /// With DISTINCT, an item of ORDER BY is not made of columns. Here alone calls are compared as they
@@ -123,7 +123,7 @@ fn not_renamed(
     let Some(name) = first_renamed(renamed, scope, order) else {
         return Ok(());
     };
-    let name = copy_text(alloc, name)?;
+    let name = name.try_clone(alloc)?;
     Err(BindRefusal::AmbiguousOrderName { name })
 }
 

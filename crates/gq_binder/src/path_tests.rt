@@ -18,14 +18,14 @@ ghost use Rattle.gq_resolve.specs.Places.{strays};
 use crate::bound::{MOST_TESTS, push_typed};
 use gq_alternatives::Choice;
 use gq_ast::{Ast, Item, Sort};
-use gq_base::{Catalog, List, Literal, Memory, Text};
+use gq_base::{Catalog, List, Literal, Memory, Text, TryClone};
 use gq_bound::{BindRefusal, SharedTest};
 use gq_choices::choices_of;
 use gq_core::entry_tests;
 use gq_expr::Expr;
-use gq_plan::{ExistsPart, NamedExpr, Typed};
+use gq_plan::{BoundExpr, ExistsPart, NamedExpr, Typed};
 use gq_resolve::{NamedTest, PathTest, push_paths, push_strays};
-use gq_scopes::{Copying, Pattern, Scope, copy_text, shared_variables};
+use gq_scopes::{Copying, Pattern, Scope, shared_variables};
 use std::alloc::Global;
 
 /// Appends tests, with the variables that their paths share with a scope.
@@ -262,14 +262,12 @@ fn named_part(
     ensures { IfOk result (λ part.
         part ≡ steps.named_part text.now catalog.now test.now name.now) }
 {
-    let nodes = copy_numbers(alloc, test.nodes.as_slice())?;
+    let nodes = test.nodes.try_clone(alloc)?;
     let alternatives = path_alternatives(alloc, text, catalog, pattern, choices, copying)?;
-    let name = copy_text(alloc, name)?;
+    let name = name.try_clone(alloc)?;
+    let expr = BoundExpr::new(alloc, Expr::Literal(Literal::Flag(true)))?;
     Ok(ExistsPart {
-        text: NamedExpr {
-            name,
-            expr: Expr::Literal(Literal::Flag(true)),
-        },
+        text: NamedExpr { name, expr },
         wanted: test.test.wanted,
         nodes,
         alternatives,
@@ -304,14 +302,4 @@ fn path_alternatives(
         &mut all,
     )?;
     Ok(all)
-}
-
-fn copy_numbers(alloc: Global, numbers: &[u32]) -> Result<List<u32>, Memory>
-    ensures { IfOk result (λ ns. ns ≡ numbers.now) }
-{
-    let mut copies = List::new(alloc);
-    for number in numbers {
-        copies.push(*number)?;
-    }
-    Ok(copies)
 }

@@ -1,7 +1,7 @@
 //! The bound form of a query with trails: its node variables are numbered anew, those of its core
 //! first, and no trail has a variable.
 ghost use Rattle.std.specs.Prelude.{◌≡◌, ◌∷◌, ◌++◌, [], filter_map, if◌then◌else◌, is_some, map};
-ghost use Rattle.std.specs.Prelude.{slice_get, unwrap_or, IfOk, OnOk};
+ghost use Rattle.std.specs.Prelude.{IfOk, OnOk};
 ghost use Rattle.gq_bound.specs.Columns as columns;
 ghost use Rattle.gq_bound.specs.Columns.{column_expr, sort_expr, trail_name};
 ghost use Rattle.gq_bound.specs.steps.Parts as steps;
@@ -10,19 +10,21 @@ ghost use Rattle.gq_bound.specs.steps.Parts.{exists_part, no_lists, renumbered_a
 ghost use Rattle.gq_bound.specs.steps.Parts.{renumbered_keys};
 ghost use Rattle.gq_bound.specs.steps.Parts.{IsWholeCore};
 ghost use Rattle.gq_core.specs.Entries.{entry_test};
-ghost use Rattle.gq_law_cuts.specs.Cuts as cuts;
 ghost use Rattle.gq_law_reaches.specs.Core.{trail_parts};
+ghost use Rattle.gq_scopes.specs.Renumbering.{placed_in};
 ghost use Rattle.gq_scopes.specs.Scopes.{scope_of};
 
-use crate::bound::{MOST_TESTS, push_keys, push_texts};
+use crate::bound::{MOST_TESTS, push_keys};
 use crate::last_checks::Alternatives;
 use gq_alternatives::Choice;
 use gq_ast::Query;
-use gq_base::{Catalog, List, Memory, Text};
+use gq_base::{Catalog, List, Memory, Text, TryClone};
 use gq_bound::QueryParts;
-use gq_core::{Core, Orders, core_typed, entry_tests, plain_rels, renumber, trail_parts};
-use gq_plan::{Bound, ExistsPart, NamedExpr, SortExpr, TrailPart, Typed};
-use gq_scopes::{Column, Copying, Pattern, RelPattern, copy_text, next};
+use gq_core::{Core, core_typed, entry_tests, plain_rels, push_texts, text_at, trail_parts};
+use gq_plan::{Bound, BoundExpr, ExistsPart, NamedExpr, SortExpr, TrailPart, Typed};
+use gq_scopes::{
+    Column, Copying, Numbering, Orders, Pattern, RelPattern, next, placed_in, renumber,
+};
 use std::alloc::Global;
 use std::mem;
 
@@ -179,9 +181,11 @@ fn push_renumbered(
         OnOk result (all.new ≡ all.old ++ numbered exprs.now) }
 {
     let mut copying = Copying::of(MOST_TESTS);
+    let numbering = Numbering::Placed(orders);
     for named in exprs {
-        let name = copy_text(alloc, &named.name)?;
-        let expr = renumber(alloc, &mut copying, orders, &named.expr)?;
+        let name = named.name.try_clone(alloc)?;
+        let expr = renumber(alloc, &mut copying, numbering, named.expr.get())?;
+        let expr = BoundExpr::new(alloc, expr)?;
         all.push(NamedExpr { name, expr })?;
     }
     Ok(())
@@ -198,12 +202,14 @@ fn push_renumbered_columns(
         OnOk result (all.new ≡ all.old ++ numbered (filter_map column_expr columns.now)) }
 {
     let mut copying = Copying::of(MOST_TESTS);
+    let numbering = Numbering::Placed(orders);
     for column in columns {
         let Some(expr) = &column.expr else {
             continue;
         };
-        let name = copy_text(alloc, &column.name)?;
-        let expr = renumber(alloc, &mut copying, orders, expr)?;
+        let name = column.name.try_clone(alloc)?;
+        let expr = renumber(alloc, &mut copying, numbering, expr)?;
+        let expr = BoundExpr::new(alloc, expr)?;
         all.push(NamedExpr { name, expr })?;
     }
     Ok(())
@@ -237,10 +243,11 @@ fn push_numbered(
         OnOk result (all.new ≡ all.old ++ numbered keys.now) }
 {
     let mut copying = Copying::of(MOST_TESTS);
+    let numbering = Numbering::Placed(orders);
     for key in keys {
-        let expr = renumber(alloc, &mut copying, orders, &key.expr)?;
+        let expr = renumber(alloc, &mut copying, numbering, key.expr.get())?;
         all.push(SortExpr {
-            expr,
+            expr: BoundExpr::new(alloc, expr)?,
             down: key.down,
         })?;
     }
@@ -279,7 +286,7 @@ fn push_part(
 
 // Numbers node variables anew.
 fn place(alloc: Global, order: &[u32], nodes: &mut List<u32>) -> Result<(), Memory>
-    ensures { OnOk result (nodes.new ≡ map (cuts.placed_in order.now) nodes.old) }
+    ensures { OnOk result (nodes.new ≡ map (placed_in order.now) nodes.old) }
 {
     let mut placed = List::new(alloc);
     for node in nodes.as_slice() {
@@ -287,20 +294,6 @@ fn place(alloc: Global, order: &[u32], nodes: &mut List<u32>) -> Result<(), Memo
     }
     *nodes = placed;
     Ok(())
-}
-
-// Where a variable stands in an order.
-fn placed_in(order: &[u32], variable: u32) -> Result<u32, Memory>
-    ensures { IfOk result (λ at. at ≡ cuts.placed_in order.now variable) }
-{
-    let mut at = 0;
-    for other in order {
-        if variable == *other {
-            return Ok(at);
-        }
-        at = next(at)?;
-    }
-    Ok(at)
 }
 
 // Appends what the trails of patterns are called.
@@ -331,20 +324,11 @@ fn push_trail_name(
     if !is_trail(rel) {
         return Ok(());
     }
-    all.push(name_at(alloc, names, number)?)
+    all.push(text_at(alloc, names, number)?)
 }
 
 fn is_trail(rel: &RelPattern<'_>) -> bool
     ensures { result ≡ is_some rel.now.part.trail }
 {
     rel.part.trail.is_some()
-}
-
-fn name_at(alloc: Global, names: &[Text], number: u32) -> Result<Text, Memory>
-    ensures { IfOk result (λ t. t ≡ unwrap_or (slice_get names.now number) []) }
-{
-    match names.get(number as usize) {
-        Some(name) => copy_text(alloc, name),
-        None => Text::new(alloc, ""),
-    }
 }

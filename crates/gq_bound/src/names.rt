@@ -13,9 +13,9 @@ ghost use Rattle.gq_resolve.specs.Uses.{first_name, refused_unless, uses};
 use crate::met::Met;
 use crate::refusal::BindRefusal;
 use gq_ast::{Ast, Item, Path, Sort};
-use gq_base::{Memory, Text};
+use gq_base::{Memory, Text, TryClone};
 use gq_resolve::{Check, first_refused};
-use gq_scopes::{NamedVariable, Pattern, Scope, copy_text};
+use gq_scopes::{NamedVariable, Pattern, Scope};
 use std::alloc::Global;
 use std::marker::Model;
 
@@ -138,7 +138,7 @@ impl<'q> FirstNames<'q> {
         let Some(name) = self.variable else {
             return Ok(());
         };
-        let name = copy_text(alloc, name)?;
+        let name = name.try_clone(alloc)?;
         Err(BindRefusal::UnknownVariable { name })
     }
 
@@ -149,7 +149,7 @@ impl<'q> FirstNames<'q> {
         let Some(name) = self.other_form else {
             return Ok(());
         };
-        let name = copy_text(alloc, name)?;
+        let name = name.try_clone(alloc)?;
         Err(BindRefusal::VariableConflict { name })
     }
 
@@ -160,7 +160,7 @@ impl<'q> FirstNames<'q> {
         let Some(name) = self.again else {
             return Ok(());
         };
-        let name = copy_text(alloc, name)?;
+        let name = name.try_clone(alloc)?;
         Err(BindRefusal::RelationshipRepeated { name })
     }
 
@@ -171,7 +171,7 @@ impl<'q> FirstNames<'q> {
         let Some(name) = self.function else {
             return Ok(());
         };
-        let name = copy_text(alloc, name)?;
+        let name = name.try_clone(alloc)?;
         Err(BindRefusal::UnknownFunction { name })
     }
 
@@ -182,7 +182,7 @@ impl<'q> FirstNames<'q> {
         let Some(name) = self.arguments else {
             return Ok(());
         };
-        let name = copy_text(alloc, name)?;
+        let name = name.try_clone(alloc)?;
         Err(BindRefusal::ArgumentCount { name })
     }
 }

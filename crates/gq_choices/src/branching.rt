@@ -5,12 +5,12 @@ ghost use Rattle.gq_choices.specs.steps.Branching.{IsBlank, IsOpen};
 ghost use Rattle.gq_choices.specs.steps.Searching.{adding, agreeing};
 
 use crate::alternatives::{some_without_reading, some_without_table};
-use crate::found::{Found, copy_readings};
+use crate::found::Found;
 use crate::narrowing::{Candidates, insert_ends};
 use crate::number_set::NumberSet;
 use crate::search::{Space, search};
-use gq_alternatives::{Reading, Step, copy_numbers};
-use gq_base::{Catalog, List, Memory};
+use gq_alternatives::{Reading, Step};
+use gq_base::{Catalog, List, Memory, copy_all};
 use std::alloc::Global;
 
 /// As many relationship patterns as a query has at most: each branching gives one of them a single
@@ -144,7 +144,7 @@ fn decided<'s>(
 {
     Ok(Candidates {
         steps: decided_steps(alloc, candidates.steps.as_slice(), at, reading)?,
-        tables: copy_tables(alloc, candidates.tables.as_slice())?,
+        tables: copy_all(alloc, candidates.tables.as_slice())?,
         changed: changed_at(alloc, candidates.steps.as_slice(), at)?,
     })
 }
@@ -166,7 +166,7 @@ fn decided_steps<'s>(
 ) -> Result<List<Step<'s>>, Memory>
     ensures { IfOk result (λ ss. ss ≡ branching.deciding at reading steps.now) }
 {
-    let mut copies = copy_steps(alloc, steps)?;
+    let mut copies = copy_all(alloc, steps)?;
     let Some(step) = steps.get(at) else {
         return Ok(copies);
     };
@@ -174,30 +174,5 @@ fn decided_steps<'s>(
     let mut readings = List::new(alloc);
     readings.push(reading)?;
     copies.set(at, Step { pattern, readings });
-    Ok(copies)
-}
-
-fn copy_steps<'s>(alloc: Global, steps: &[Step<'s>]) -> Result<List<Step<'s>>, Memory>
-    ensures { IfOk result (λ ss. ss ≡ steps.now) }
-{
-    let mut copies = List::new(alloc);
-    for step in steps {
-        let readings = copy_readings(alloc, step.readings.as_slice())?;
-        copies.push(Step {
-            pattern: step.pattern,
-            readings,
-        })?;
-    }
-    Ok(copies)
-}
-
-fn copy_tables(alloc: Global, lists: &[List<u32>]) -> Result<List<List<u32>>, Memory>
-    ensures { IfOk result (λ ls. ls ≡ lists.now) }
-{
-    let mut copies = List::new(alloc);
-    for tables in lists {
-        let copied = copy_numbers(alloc, tables.as_slice())?;
-        copies.push(copied)?;
-    }
     Ok(copies)
 }

@@ -6,7 +6,7 @@ ghost use Rattle.gq_choices.specs.steps.Searching.{adding, agreeing};
 
 use crate::budget::Budget;
 use crate::narrowing::{Candidates, narrowed};
-use gq_alternatives::{Choice, Reading, copy_numbers};
+use gq_alternatives::{Choice, Reading};
 use gq_base::{Catalog, List, Memory};
 use std::alloc::Global;
 use std::marker::Model;
@@ -160,8 +160,8 @@ impl Found {
             return Ok(());
         }
         let choice = Choice {
-            readings: copy_readings(alloc, self.readings.as_slice())?,
-            tables: copy_numbers(alloc, self.tables.as_slice())?,
+            readings: List::from_slice(alloc, self.readings.as_slice())?,
+            tables: List::from_slice(alloc, self.tables.as_slice())?,
         };
         self.choices.push(choice)
     }
@@ -175,14 +175,4 @@ fn nothing_known(alloc: Global, tables: &[List<u32>]) -> Result<List<Option<u32>
         known.push(None)?;
     }
     Ok(known)
-}
-
-/// A copy of readings.
-pub fn copy_readings(alloc: Global, readings: &[Reading]) -> Result<List<Reading>, Memory>
-    ensures { IfOk result (λ rs. rs ≡ readings.now) }
-{
-    match Vec::from_slice(alloc, readings) {
-        Ok(copied) => Ok(List::from_vec(copied)),
-        Err(_) => Err(Memory::Exhausted),
-    }
 }

@@ -13,7 +13,8 @@ use Rattle.gq_ast.specs.declared.NodePart.{NodePart}
 use Rattle.gq_ast.specs.declared.Path.{Path}
 use Rattle.gq_ast.specs.declared.Range.{Range}
 use Rattle.gq_law_cuts.specs.Cuts.{alone_in, in_pattern, piece_behind, trailed_of, with_clauses, with_hop, with_hops, with_path, with_paths}
-use Rattle.gq_law_cuts.specs.Cuts.{core_first, core_of, core_size, pattern_in, placed_in}
+use Rattle.gq_law_cuts.specs.Cuts.{core_first, core_of, core_size, pattern_in}
+use Rattle.gq_scopes.specs.Renumbering.{placed_in}
 use Rattle.gq_law_cuts.specs.Shaped.{core_pattern_of}
 use Rattle.gq_law_reaches.specs.Reaches.{Trailed}
 use Rattle.gq_core.proofs.Coring.{cored_is}

@@ -2,6 +2,5 @@ mod Coring
 pub mod Counts
 pub mod Plain
 mod Ranges
-mod Renumbered
 mod Same
 pub mod Whole

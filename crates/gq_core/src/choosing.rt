@@ -8,7 +8,7 @@ ghost use Rattle.gq_plan.specs.Soundness.{has_number};
 
 use crate::trailed::{TrailPattern, Trailed};
 use gq_base::{List, Memory};
-use gq_plan::PathPart;
+use gq_plan::{PathPart, has_number};
 use gq_scopes::{RelPattern, next};
 use std::alloc::Global;
 
@@ -29,16 +29,9 @@ pub fn core_first(alloc: Global, nodes: &[u32], count: usize) -> Result<List<u32
 {
     let all = numbers_below(alloc, count)?;
     let mut order = List::new(alloc);
-    push_all(&mut order, nodes)?;
+    order.extend(nodes)?;
     push_outside(&mut order, nodes, all.as_slice())?;
     Ok(order)
-}
-
-/// Whether a number stands among numbers.
-pub fn has(numbers: &[u32], number: u32) -> bool
-    ensures { result ≡ has_number numbers.now number }
-{
-    numbers.iter().any(|other| number == *other)
 }
 
 /// Puts a number before others.
@@ -69,7 +62,7 @@ fn first_core(alloc: Global, trailed: &Trailed<'_>) -> Result<List<u32>, Memory>
     for piece in trailed.pattern.paths() {
         push_joined(&mut nodes, piece, trailed.pattern.rels())?;
     }
-    push_all(&mut nodes, trailed.alone.as_slice())?;
+    nodes.extend(trailed.alone.as_slice())?;
     Ok(nodes)
 }
 
@@ -117,15 +110,6 @@ fn push_right(nodes: &mut List<u32>, number: u32, rels: &[RelPattern<'_>]) -> Re
     }
 }
 
-fn push_all(all: &mut List<u32>, more: &[u32]) -> Result<(), Memory>
-    ensures { IfOk result (λ _. all.new ≡ all.old ++ more.now) }
-{
-    for number in more {
-        all.push(*number)?;
-    }
-    Ok(())
-}
-
 // The core with the left ends of trails of which neither end is bound when their turn comes.
 fn grown(alloc: Global, first: &[u32], trails: &[TrailPattern<'_>]) -> Result<Vec<u32>, Memory>
     ensures { IfOk result (λ vs. vs.items ≡ core.grown first.now first.now trails.now) }
@@ -133,7 +117,8 @@ fn grown(alloc: Global, first: &[u32], trails: &[TrailPattern<'_>]) -> Result<Ve
     let mut nodes = copied(alloc, first)?;
     let mut bound = copied(alloc, first)?;
     for trail in trails {
-        let reached = has(bound.as_slice(), trail.left) || has(bound.as_slice(), trail.right);
+        let left = has_number(bound.as_slice(), trail.left as usize);
+        let reached = left || has_number(bound.as_slice(), trail.right as usize);
         if !reached {
             put_front(&mut nodes, trail.left)?;
         }
@@ -163,7 +148,7 @@ fn inside(alloc: Global, nodes: &[u32], numbers: &[u32]) -> Result<List<u32>, Me
 {
     let mut found = List::new(alloc);
     for number in numbers {
-        if has(nodes, *number) {
+        if has_number(nodes, *number as usize) {
             found.push(*number)?;
         }
     }
@@ -176,7 +161,7 @@ fn push_outside(order: &mut List<u32>, nodes: &[u32], numbers: &[u32]) -> Result
         ++ filter (λ v. not (has_number nodes.now v)) numbers.now) }
 {
     for number in numbers {
-        if !has(nodes, *number) {
+        if !has_number(nodes, *number as usize) {
             order.push(*number)?;
         }
     }

@@ -1,28 +1,26 @@
-//! Copies of lists.
-ghost use Rattle.std.specs.Prelude.{◌≡◌, IfOk};
+//! Copies of texts of a list.
+ghost use Rattle.std.specs.Prelude.{◌≡◌, ◌++◌, [], slice_get, unwrap_or, IfOk, OnOk};
 
-use gq_base::{List, Memory, Text};
-use gq_scopes::copy_text;
+use gq_base::{List, Memory, Text, TryClone};
 use std::alloc::Global;
 
-/// A copy of numbers.
-pub fn copy_numbers(alloc: Global, numbers: &[u32]) -> Result<List<u32>, Memory>
-    ensures { IfOk result (λ ns. ns ≡ numbers.now) }
+/// A copy of the text at a place, or the empty text where there is none.
+pub fn text_at(alloc: Global, texts: &[Text], place: u32) -> Result<Text, Memory>
+    ensures { IfOk result (λ t. t ≡ unwrap_or (slice_get texts.now place) []) }
 {
-    match Vec::from_slice(alloc, numbers) {
-        Ok(copied) => Ok(List::from_vec(copied)),
-        Err(_) => Err(Memory::Exhausted),
+    match texts.get(place as usize) {
+        Some(text) => text.try_clone(alloc),
+        None => Text::new(alloc, ""),
     }
 }
 
-/// A copy of texts.
-pub fn copy_texts(alloc: Global, texts: &[Text]) -> Result<List<Text>, Memory>
-    ensures { IfOk result (λ ts. ts ≡ texts.now) }
+/// Appends copies of texts.
+pub fn push_texts(alloc: Global, texts: &[Text], all: &mut List<Text>) -> Result<(), Memory>
+    ensures { OnOk result (all.new ≡ all.old ++ texts.now) }
 {
-    let mut copies = List::new(alloc);
     for text in texts {
-        let copied = copy_text(alloc, text)?;
-        copies.push(copied)?;
+        let copied = text.try_clone(alloc)?;
+        all.push(copied)?;
     }
-    Ok(copies)
+    Ok(())
 }

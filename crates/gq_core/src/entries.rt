@@ -6,11 +6,11 @@ ghost use Rattle.gq_core.specs.Entries as asked;
 ghost use Rattle.gq_ast.specs.Sources as sources;
 ghost use Rattle.gq_ast.specs.Spans.{IsWholeEntry};
 
-use gq_base::{Boxed, CompareOp, List, Literal, Memory, Text};
+use gq_base::{Boxed, CompareOp, List, Literal, Memory, Text, TryClone};
 use gq_expr::{CompareOperand, Expr, Operand};
-use gq_plan::NamedExpr;
+use gq_plan::{BoundExpr, NamedExpr};
 use gq_resolve::source_text;
-use gq_scopes::{MapEntry, Variable, copy_literal, copy_text};
+use gq_scopes::{MapEntry, Variable};
 use std::alloc::Global;
 
 /// The tests of map entries: a property of an entry's variable equals the entry's literal.
@@ -37,7 +37,7 @@ pub fn entry_test(alloc: Global, text: &[u8], entry: &MapEntry<'_>) -> Result<Na
 {
     Ok(NamedExpr {
         name: entry_name(alloc, text, entry)?,
-        expr: entry_expr(alloc, entry)?,
+        expr: BoundExpr::new(alloc, entry_expr(alloc, entry)?)?,
     })
 }
 
@@ -60,7 +60,7 @@ fn entry_name(alloc: Global, text: &[u8], entry: &MapEntry<'_>) -> Result<Text, 
 fn entry_expr(alloc: Global, entry: &MapEntry<'_>) -> Result<Expr, Memory>
     ensures { IfOk result (λ e. e ≡ asked.entry_expr entry.now) }
 {
-    let terms = equal_to(alloc, copy_literal(alloc, &entry.entry.value)?)?;
+    let terms = equal_to(alloc, entry.entry.value.try_clone(alloc)?)?;
     let property = property_of(alloc, entry.variable, &entry.entry.key)?;
     Ok(Expr::Compare(Boxed::new(alloc, property)?, terms))
 }
@@ -81,7 +81,7 @@ fn equal_to(alloc: Global, literal: Literal) -> Result<List<CompareOperand>, Mem
 fn property_of(alloc: Global, variable: Variable, key: &Text) -> Result<Expr, Memory>
     ensures { IfOk result (λ e. e ≡ asked.property_of variable key.now) }
 {
-    let key = copy_text(alloc, key)?;
+    let key = key.try_clone(alloc)?;
     match variable {
         Variable::Node(number) => Ok(Expr::NodeProperty(number, key)),
         Variable::Rel(number) => Ok(Expr::RelProperty(number, key)),

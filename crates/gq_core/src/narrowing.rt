@@ -5,12 +5,9 @@ ghost use Rattle.gq_law_reaches.specs.Core as core;
 ghost use Rattle.gq_plan.specs.declared.PathPart as plan;
 ghost use Rattle.gq_scopes.specs.Patterns as patterns;
 
-use crate::copies::{copy_numbers, copy_texts};
-use gq_base::{List, Memory, Text};
+use gq_base::{List, Memory, Text, TryClone, copy_all};
 use gq_plan::{PathPart, Variable};
-use gq_scopes::{
-    MapEntry, NamedVariable, Names, NodePattern, Pattern, PatternLists, RelPattern, copy_text,
-};
+use gq_scopes::{MapEntry, Names, NodePattern, Pattern, PatternLists};
 use std::alloc::Global;
 
 /// The patterns of a core of so many node variables: its paths are the pieces all of whose
@@ -24,12 +21,12 @@ pub fn core_pattern<'t>(
 {
     let lists = PatternLists {
         names: first_names(alloc, count, pattern.names())?,
-        named: copy_named(alloc, pattern.named())?,
-        node_names: copy_texts(alloc, pattern.node_names())?,
-        rel_names: copy_texts(alloc, pattern.rel_names())?,
+        named: copy_all(alloc, pattern.named())?,
+        node_names: copy_all(alloc, pattern.node_names())?,
+        rel_names: copy_all(alloc, pattern.rel_names())?,
         unnamed: pattern.unnamed(),
         nodes: nodes_below(alloc, count, pattern.nodes())?,
-        rels: copy_rels(alloc, pattern.rels())?,
+        rels: copy_all(alloc, pattern.rels())?,
         paths: paths_below(alloc, count, pattern.paths())?,
         entries: entries_below(alloc, count, pattern.entries())?,
     };
@@ -53,37 +50,6 @@ fn copy_names(alloc: Global, names: &[Option<Text>]) -> Result<Names, Memory>
     Ok(copies)
 }
 
-fn copy_named<'t>(
-    alloc: Global,
-    named: &[NamedVariable<'t>],
-) -> Result<List<NamedVariable<'t>>, Memory>
-    ensures { IfOk result (λ ns. ns ≡ named.now) }
-{
-    let mut copies = List::new(alloc);
-    for one in named {
-        copies.push(NamedVariable {
-            name: one.name,
-            variable: one.variable,
-        })?;
-    }
-    Ok(copies)
-}
-
-fn copy_rels<'t>(alloc: Global, rels: &[RelPattern<'t>]) -> Result<List<RelPattern<'t>>, Memory>
-    ensures { IfOk result (λ rs. rs ≡ rels.now) }
-{
-    let mut copies = List::new(alloc);
-    for rel in rels {
-        copies.push(RelPattern {
-            clause: rel.clause,
-            left: rel.left,
-            right: rel.right,
-            part: rel.part,
-        })?;
-    }
-    Ok(copies)
-}
-
 fn nodes_below<'t>(
     alloc: Global,
     count: u32,
@@ -95,10 +61,8 @@ fn nodes_below<'t>(
     let mut found = List::new(alloc);
     for node in nodes {
         if node.variable < count {
-            found.push(NodePattern {
-                variable: node.variable,
-                part: node.part,
-            })?;
+            let copied = node.try_clone(alloc)?;
+            found.push(copied)?;
         }
     }
     Ok(found)
@@ -111,11 +75,8 @@ fn paths_below(alloc: Global, count: u32, paths: &[PathPart]) -> Result<List<Pat
     let mut found = List::new(alloc);
     for path in paths {
         if path.first < count {
-            let rels = copy_numbers(alloc, path.rels.as_slice())?;
-            found.push(PathPart {
-                first: path.first,
-                rels,
-            })?;
+            let copied = path.try_clone(alloc)?;
+            found.push(copied)?;
         }
     }
     Ok(found)
@@ -131,7 +92,7 @@ fn entries_below<'t>(
     let mut found = List::new(alloc);
     for entry in entries {
         if is_core_entry(count, entry) {
-            let called = copy_text(alloc, &entry.called)?;
+            let called = entry.called.try_clone(alloc)?;
             found.push(MapEntry {
                 variable: entry.variable,
                 called,

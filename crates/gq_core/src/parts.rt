@@ -8,14 +8,15 @@ ghost use Rattle.gq_law_reaches.specs.Core.{entries_at};
 ghost use Rattle.gq_scopes.specs.Patterns as patterns;
 ghost use Rattle.gq_ast.specs.Spans.{IsWholeEntry};
 
-use crate::choosing::{copied, core_nodes, has, put_front};
+use crate::choosing::{copied, core_nodes, put_front};
+use crate::copies::{push_texts, text_at};
 use crate::cored::Core;
 use crate::entries::entry_test;
 use crate::trailed::TrailPattern;
 use gq_ast::{Arrow, RelPart};
 use gq_base::{Direction, List, Memory, Text};
-use gq_plan::{NamedExpr, TrailPart, Variable};
-use gq_scopes::{MapEntry, NodePattern, Pattern, copy_text};
+use gq_plan::{NamedExpr, TrailPart, Variable, has_number};
+use gq_scopes::{MapEntry, NodePattern, Pattern};
 use std::alloc::Global;
 
 /// All trails of a query, which stands in a text, in text order: each is walked from its left end
@@ -44,8 +45,8 @@ fn parts_from(
     let mut bound = copied(alloc, first)?;
     let mut parts = List::new(alloc);
     for trail in trails {
-        let left = has(bound.as_slice(), trail.left);
-        let right = has(bound.as_slice(), trail.right);
+        let left = has_number(bound.as_slice(), trail.left as usize);
+        let right = has_number(bound.as_slice(), trail.right as usize);
         let part = part_of(alloc, text, pattern, left, right, trail)?;
         parts.push(part)?;
         put_front(&mut bound, trail.right)?;
@@ -94,10 +95,7 @@ fn chosen(first: bool, one: u32, other: u32) -> u32
 fn kind_of(alloc: Global, part: &RelPart) -> Result<Text, Memory>
     ensures { IfOk result (λ k. k ≡ unwrap_or (slice_get part.now.kinds 0) []) }
 {
-    match part.kinds.as_slice().get(0) {
-        Some(kind) => copy_text(alloc, kind),
-        None => Text::new(alloc, ""),
-    }
+    text_at(alloc, part.kinds.as_slice(), 0)
 }
 
 // A number of relationships. So many as do not fit do not fit in memory either.
@@ -167,20 +165,10 @@ fn push_labels(
         ++ (if nat_eq node.now.variable to then node.now.part.labels else [])) }
 {
     if node.variable == to {
-        push_texts(alloc, labels, node.part.labels.as_slice())
+        push_texts(alloc, node.part.labels.as_slice(), labels)
     } else {
         Ok(())
     }
-}
-
-fn push_texts(alloc: Global, all: &mut List<Text>, more: &[Text]) -> Result<(), Memory>
-    ensures { IfOk result (λ _. all.new ≡ all.old ++ more.now) }
-{
-    for text in more {
-        let copied = copy_text(alloc, text)?;
-        all.push(copied)?;
-    }
-    Ok(())
 }
 
 // The tests of the map entries of a trail's other end, unless both ends are bound.

@@ -1,18 +1,16 @@
 //! The alternatives of a core: conjuncts that read its variables alone and cannot fault are tests,
 //! and all others are late.
-ghost use Rattle.std.specs.Prelude.{◌≡◌, filter, map, nat_lt, true, IfOk};
-ghost use Rattle.std.specs.List.{list_all};
+ghost use Rattle.std.specs.Prelude.{◌≡◌, filter, map, IfOk};
 ghost use Rattle.gq_core.specs.steps.Staying.{below};
 ghost use Rattle.gq_law_cuts.specs.Typing as typing;
 ghost use Rattle.gq_law_cuts.specs.Typing.{is_early, others_from, stays_in};
-ghost use Rattle.gq_plan.specs.Known.{reads_bound};
-ghost use Rattle.gq_plan.specs.steps.Known.{tester_bound};
+ghost use Rattle.gq_plan.specs.Known.{is_bound};
 
 use gq_alternatives::{Choice, kinds_for, typed};
 use gq_base::{Catalog, List, Memory};
-use gq_expr::{ArithOperand, CompareOperand, Expr, ExprTester, Kinds, Tester, can_fault};
-use gq_plan::{NamedExpr, Typed};
-use gq_scopes::{Copying, Pattern, copy_part, copy_text, next};
+use gq_expr::{Kinds, can_fault};
+use gq_plan::{NamedExpr, Read, Typed, Variable};
+use gq_scopes::{Copying, Pattern, copy_named, next};
 use std::alloc::Global;
 
 /// The alternatives of a core of so many node variables, with the tests of its maps and the
@@ -106,16 +104,6 @@ fn staying(
     Ok(copies)
 }
 
-fn copy_named(alloc: Global, copying: &mut Copying, named: &NamedExpr) -> Result<NamedExpr, Memory>
-    ensures { IfOk result (λ n. n ≡ named.now) }
-{
-    copying.take_name(&named.name)?;
-    Ok(NamedExpr {
-        name: copy_text(alloc, &named.name)?,
-        expr: copy_part(alloc, copying, &named.expr)?,
-    })
-}
-
 // The numbers of the conjuncts that are no tests.
 fn others_of(
     alloc: Global,
@@ -140,97 +128,25 @@ fn others_of(
 fn is_early(count: u32, kinds: &Kinds, conjunct: &NamedExpr) -> bool
     ensures { result ≡ is_early (stays_in count) kinds.now conjunct.now }
 {
-    stays(count, conjunct) && !can_fault(&conjunct.expr, kinds)
+    stays(count, conjunct) && !can_fault(conjunct.expr.get(), kinds)
 }
 
 // Whether a conjunct reads of the node variables the first ones alone, so many.
 fn stays(count: u32, conjunct: &NamedExpr) -> bool
     ensures { result ≡ stays_in count conjunct.now }
 {
-    reads_below(count, &conjunct.expr)
+    conjunct
+        .expr
+        .reads()
+        .iter()
+        .all(|read| is_below(count, read))
 }
 
-#[cycle(reads_below)]
-#[tactic(auto, using(gq_plan::proofs::BoundReads::equations))]
-fn reads_below(count: u32, expr: &Expr) -> bool
-    ensures { result ≡ reads_bound (below count) expr.now }
+fn is_below(count: u32, read: &Read) -> bool
+    ensures { result ≡ is_bound (below count) read.now.variable }
 {
-    match expr {
-        Expr::Literal(_) => true,
-        Expr::Node(node) => *node < count,
-        Expr::Rel(_) => true,
-        Expr::NodeProperty(node, _) => *node < count,
-        Expr::RelProperty(_, _) => true,
-        Expr::TypeName(inner) => reads_below(count, inner.get()),
-        Expr::Coalesce(all) => each_below(count, all.as_slice()),
-        Expr::Negate(inner) => reads_below(count, inner.get()),
-        Expr::Plus(inner) => reads_below(count, inner.get()),
-        Expr::Not(inner) => reads_below(count, inner.get()),
-        Expr::Or(all) => each_below(count, all.as_slice()),
-        Expr::Xor(all) => each_below(count, all.as_slice()),
-        Expr::And(all) => each_below(count, all.as_slice()),
-        Expr::Compare(first, terms) => {
-            reads_below(count, first.get()) && compares_below(count, terms.as_slice())
-        }
-        Expr::Test(first, testers) => {
-            reads_below(count, first.get()) && testers_below(count, testers.as_slice())
-        }
-        Expr::Arith(first, terms) => {
-            reads_below(count, first.get()) && ariths_below(count, terms.as_slice())
-        }
+    match read.variable {
+        Variable::Node(node) => node < count,
+        Variable::Rel(_) => true,
     }
-}
-
-#[cycle(reads_below)]
-fn each_below(count: u32, all: &[Expr]) -> bool
-    ensures { result ≡ list_all (reads_bound (below count)) all.now }
-{
-    for part in all {
-        if !reads_below(count, part) {
-            return false;
-        }
-    }
-    true
-}
-
-#[cycle(reads_below)]
-fn compares_below(count: u32, terms: &[CompareOperand]) -> bool
-    ensures { result ≡ list_all (λ t. reads_bound (below count) t.expr) terms.now }
-{
-    for term in terms {
-        if !reads_below(count, &term.expr) {
-            return false;
-        }
-    }
-    true
-}
-
-#[cycle(reads_below)]
-fn ariths_below(count: u32, terms: &[ArithOperand]) -> bool
-    ensures { result ≡ list_all (λ t. reads_bound (below count) t.expr) terms.now }
-{
-    for term in terms {
-        if !reads_below(count, &term.expr) {
-            return false;
-        }
-    }
-    true
-}
-
-#[cycle(reads_below)]
-fn testers_below(count: u32, testers: &[ExprTester]) -> bool
-    ensures { result ≡ list_all (tester_bound (below count)) testers.now }
-{
-    for tester in testers {
-        let stays = match tester {
-            Tester::IsNull => true,
-            Tester::IsNotNull => true,
-            Tester::Member(_) => true,
-            Tester::Text(_, part) => reads_below(count, part),
-        };
-        if !stays {
-            return false;
-        }
-    }
-    true
 }

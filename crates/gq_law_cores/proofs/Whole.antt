@@ -13,7 +13,8 @@ use Rattle.gq_plan.proofs.Each.{each_map, each_then}
 use Rattle.gq_plan.specs.Marked.{made_of}
 use Rattle.gq_scopes.specs.Patterns.{Pattern, pattern_of}
 use Rattle.gq_ast.specs.declared.Clause.{Clause}
-use Rattle.gq_law_cuts.specs.Cuts.{HaveLengths, core_first, core_of, core_size, cored_of, placed_in, trailed_of}
+use Rattle.gq_law_cuts.specs.Cuts.{HaveLengths, core_first, core_of, core_size, cored_of, trailed_of}
+use Rattle.gq_scopes.specs.Renumbering.{placed_in}
 use Rattle.gq_law_cores.specs.Made.{made_by}
 use Rattle.gq_law_cuts.specs.Shaped.{core_pattern_of}
 use Rattle.gq_law_cuts.specs.Typing.{stays_in}

@@ -21,7 +21,8 @@ use Rattle.gq_law_reaches.specs.Core.{core_nodes, first_core, from_first, grown,
 use Rattle.gq_law_reaches.specs.Cores.{IsCored, is_end}
 use Rattle.gq_law_reaches.specs.Reaches.{TrailPattern, Trailed}
 use Rattle.gq_law_reaches.proofs.Orders.{grown_keeps}
-use Rattle.gq_law_cuts.specs.Cuts.{CutsAreCored, core_first, core_size, cored_of, numbered_in, pattern_in, placed_in, trailed_of, variable_in}
+use Rattle.gq_law_cuts.specs.Cuts.{CutsAreCored, core_first, core_size, cored_of, numbered_in, pattern_in, trailed_of, variable_in}
+use Rattle.gq_scopes.specs.Renumbering.{placed_in}
 use Rattle.gq_law_cuts.proofs.Ordering.{first_is, firsts_few, has_filter, order_length, placed_apart, placed_first, placed_onto, range_has}
 use Rattle.gq_law_cuts.proofs.Reading.{IsRead, has_items, is_met, trailed_read}
 

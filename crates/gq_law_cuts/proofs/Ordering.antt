@@ -10,7 +10,7 @@ use Rattle.gq_alternatives.proofs.Searches.{filter_same}
 use Rattle.gq_plan.proofs.Each.{each_below, each_then}
 use Rattle.gq_plan.proofs.Permuted.{range_any}
 use Rattle.gq_plan.specs.Soundness.{has_number}
-use Rattle.gq_law_cuts.specs.Cuts.{placed_in}
+use Rattle.gq_scopes.specs.Renumbering.{placed_in}
 
 -- ---- places in lists
 

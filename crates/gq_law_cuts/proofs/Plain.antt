@@ -22,7 +22,8 @@ use Rattle.gq_ast.specs.declared.Hop.{Hop}
 use Rattle.gq_ast.specs.declared.NodePart.{NodePart}
 use Rattle.gq_ast.specs.declared.Path.{Path}
 use Rattle.gq_ast.specs.declared.Range.{Range}
-use Rattle.gq_law_cuts.specs.Cuts.{alone_in, core_first, core_of, core_size, cored_of, in_pattern, listed_in, pattern_in, piece_behind, placed_in, trailed_of, variable_in, with_clauses, with_hop, with_hops, with_path, with_paths}
+use Rattle.gq_law_cuts.specs.Cuts.{alone_in, core_first, core_of, core_size, cored_of, in_pattern, listed_in, pattern_in, piece_behind, trailed_of, variable_in, with_clauses, with_hop, with_hops, with_path, with_paths}
+use Rattle.gq_scopes.specs.Renumbering.{placed_in}
 use Rattle.gq_law_cuts.specs.Plain.{HaveNoTrail, PlainCuts}
 use Rattle.gq_law_cuts.proofs.Coring.{is_core, outside}
 use Rattle.gq_law_cuts.proofs.Ordering.{range_has}

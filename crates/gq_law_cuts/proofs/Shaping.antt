@@ -30,7 +30,8 @@ use Rattle.gq_ast.specs.declared.Range.{Range}
 use Rattle.gq_law_reaches.specs.Core.{core_nodes, is_core_entry}
 use Rattle.gq_law_reaches.specs.Reaches.{Trailed, without_trails}
 use Rattle.gq_law_reaches.proofs.Cored.{take_length}
-use Rattle.gq_law_cuts.specs.Cuts.{alone_in, core_first, core_of, core_size, cored_of, in_pattern, pattern_in, piece_behind, placed_in, trailed_of, variable_in, with_clauses, with_hop, with_hops, with_path, with_paths}
+use Rattle.gq_law_cuts.specs.Cuts.{alone_in, core_first, core_of, core_size, cored_of, in_pattern, pattern_in, piece_behind, trailed_of, variable_in, with_clauses, with_hop, with_hops, with_path, with_paths}
+use Rattle.gq_scopes.specs.Renumbering.{placed_in}
 use Rattle.gq_law_cuts.specs.Shaped.{CoresAreSound, core_pattern_of}
 use Rattle.gq_law_cuts.specs.Typing.{core_typed}
 use Rattle.gq_law_cuts.proofs.Coring.{few, is_core, joined_first, lower, names, piece_core}

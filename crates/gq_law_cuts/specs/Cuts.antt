@@ -1,6 +1,6 @@
 -- The patterns of a query with trails, read from left to right: a path is cut at its trails into pieces, and the variables of the core
 -- are numbered first (this project's profile).
-use Rattle.std.specs.Prelude.{ℕ, suc, nat_eq, nat_lt, not, Bool, true, false, Option, Some, None, List, [], ◌∷◌, ◌++◌, map, filter, length, slice_get, unwrap_or, if◌then◌else◌, ◌≤◌}
+use Rattle.std.specs.Prelude.{ℕ, suc, nat_lt, not, Bool, true, false, Option, Some, None, List, [], ◌∷◌, ◌++◌, map, filter, length, slice_get, unwrap_or, ◌≤◌}
 use Rattle.std.specs.List.{AllByRecursion, range_with_len}
 use Rattle.gq_law_reaches.specs.Core.{core_nodes, core_pattern}
 use Rattle.gq_law_reaches.specs.Cores.{IsCored}
@@ -9,6 +9,7 @@ use Rattle.gq_plan.specs.Soundness.{has_number}
 use Rattle.gq_plan.specs.declared.PathPart.{PathPart}
 use Rattle.gq_plan.specs.declared.variable.Variable.{Variable}
 use Rattle.gq_plan.specs.declared.variable.Variable.TheVariants.{Node as node, Rel as rel}
+use Rattle.gq_scopes.specs.Renumbering.{placed_in}
 use Rattle.gq_scopes.specs.Patterns.{MapEntry, NamedVariable, NodePattern, Pattern, RelPattern, no_pattern, variable_of, with_node, with_part, with_rel}
 use Rattle.gq_ast.specs.declared.Arrow.{Arrow}
 use Rattle.gq_ast.specs.declared.Arrow.TheVariants as arrow
@@ -95,11 +96,6 @@ HaveLengths clauses =
 abbrev pub core_first : Trailed → List ℕ
 core_first q =
     core_nodes q ++ filter (λ v. not (has_number (core_nodes q) v)) (range_with_len 0 (length q.pattern.names))
-
--- where a variable stands in an order
-abbrev pub placed_in : List ℕ → ℕ → ℕ
-placed_in [] v = 0
-placed_in (w ∷ ws) v = if nat_eq v w then 0 else suc (placed_in ws v)
 
 abbrev pub variable_in : List ℕ → Variable → Variable
 variable_in order (node v) = node (placed_in order v)

@@ -5,7 +5,8 @@ use Rattle.gq_bound.specs.Binding.{IsBound}
 use Rattle.gq_base.specs.Catalogs.{Tables}
 use Rattle.gq_core.specs.Entries.{entry_test}
 use Rattle.gq_explain.specs.Plans.{ends_word, is_from_left}
-use Rattle.gq_law_cuts.specs.Cuts.{core_first, cored_of, piece_behind, placed_in, trailed_of, with_clauses, with_hop, with_hops, with_path, with_paths}
+use Rattle.gq_law_cuts.specs.Cuts.{core_first, cored_of, piece_behind, trailed_of, with_clauses, with_hop, with_hops, with_path, with_paths}
+use Rattle.gq_scopes.specs.Renumbering.{placed_in}
 use Rattle.gq_law_reaches.specs.Core.{core_nodes, part_of, parts_from, way_of}
 use Rattle.gq_law_reaches.specs.Reaches.{TrailPattern, Trailed, without_trails}
 use Rattle.gq_plan.specs.declared.Bound.{Bound}

@@ -14,7 +14,8 @@ use Rattle.gq_core.specs.Entries.{entry_test}
 use Rattle.gq_law_cores.proofs.Starting.{cores_are_in_turn, parts_have_ends, parts_have_length}
 use Rattle.gq_law_cuts.proofs.Coring.{cuts_are_cored}
 use Rattle.gq_law_cuts.proofs.Plain.{plain_cuts}
-use Rattle.gq_law_cuts.specs.Cuts.{HaveLengths, core_first, core_size, cored_of, placed_in, trailed_of}
+use Rattle.gq_law_cuts.specs.Cuts.{HaveLengths, core_first, core_size, cored_of, trailed_of}
+use Rattle.gq_scopes.specs.Renumbering.{placed_in}
 use Rattle.gq_law_cuts.specs.Plain.{HaveNoTrail}
 use Rattle.gq_law_reaches.specs.Core.{core_nodes, parts_from}
 use Rattle.gq_law_reaches.specs.Cores.{IsCored}

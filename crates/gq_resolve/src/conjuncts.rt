@@ -15,7 +15,7 @@ use crate::resolution::resolve;
 use crate::source::source_text;
 use gq_ast::{Ast, AstNode};
 use gq_base::{List, Memory};
-use gq_plan::NamedExpr;
+use gq_plan::{BoundExpr, NamedExpr};
 use gq_scopes::Scope;
 use std::alloc::Global;
 
@@ -109,6 +109,7 @@ fn with_whole<'t>(
     }
     match resolve(alloc, CallForm::Functions, scope, tree)? {
         Some(expr) => {
+            let expr = BoundExpr::new(alloc, expr)?;
             let values = appended(values, NamedExpr { name, expr })?;
             Ok(Some(Conjuncts { values, tests }))
         }

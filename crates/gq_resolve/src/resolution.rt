@@ -9,9 +9,9 @@ ghost use Rattle.gq_resolve.specs.steps.Trees.{term_with, tester_with};
 
 use crate::calls::{CallForm, call};
 use gq_ast::{ArithTerm, Ast, AstNode, AstTester, CompareTerm, Tester as Tested};
-use gq_base::{Boxed, List, Literal, Memory, TextTest};
+use gq_base::{Boxed, List, Literal, Memory, TextTest, TryClone, copy_all};
 use gq_expr::{ArithOperand, CompareOperand, Expr, ExprTester, Operand, Tester};
-use gq_scopes::{Copying, Scope, copy_literal, copy_literals};
+use gq_scopes::{Copying, Scope};
 use std::alloc::Global;
 
 /// The expression that a tree stands for, or `None` where it names what the scope does not have, or a call is none. An
@@ -61,9 +61,7 @@ impl<'r, 's> Resolver<'r, 's> {
             IfOk result (λ e. e ≡ go tree.now) }
     {
         match &tree.node {
-            AstNode::Literal(literal) => Ok(Some(Expr::Literal(copy_literal(
-                self.alloc, literal,
-            )?))),
+            AstNode::Literal(literal) => Ok(Some(Expr::Literal(literal.try_clone(self.alloc)?))),
             AstNode::Variable(name) => self.scope.bare(self.alloc, copying, name),
             AstNode::Property(name, key) => self.scope.property(self.alloc, name, key),
             AstNode::Call(name, all) => match self.all(copying, all.as_slice())? {
@@ -179,7 +177,7 @@ impl<'r, 's> Resolver<'r, 's> {
                 Tested::IsNull => Some(Tester::IsNull),
                 Tested::IsNotNull => Some(Tester::IsNotNull),
                 Tested::Member(literals) => {
-                    Some(Tester::Member(copy_literals(self.alloc, literals.as_slice())?))
+                    Some(Tester::Member(copy_all(self.alloc, literals.as_slice())?))
                 }
                 Tested::Text(test, part) => tested_text(*test, self.part(copying, part)?),
             };

@@ -1,4 +1,5 @@
 pub mod Listing
 pub mod NamingLemmas
 pub mod RangeLemmas
+pub mod Renumbered
 pub mod ScopeLemmas

@@ -1,8 +1,9 @@
 //! What stands in the patterns of a query: names, nodes, relationships and entries of maps, each with its variable.
 
 use gq_ast::{Entry, NodePart, RelPart};
-use gq_base::Text;
+use gq_base::{Memory, Text, TryClone};
 use gq_plan::Variable;
+use std::alloc::Global;
 use std::marker::Model;
 
 /// A name that stands in a pattern, and its variable there.
@@ -20,6 +21,15 @@ impl<'t> Model for NamedVariable<'t> {
     ghost view = { λ n. record { name = n.name.now; variable = n.variable } };
 }
 
+impl<'t> TryClone for NamedVariable<'t> {
+    fn try_clone(&self, _alloc: Global) -> Result<NamedVariable<'t>, Memory> {
+        Ok(NamedVariable {
+            name: self.name,
+            variable: self.variable,
+        })
+    }
+}
+
 /// A node pattern and its variable.
 #[derive(Drop)]
 pub struct NodePattern<'t> {
@@ -33,6 +43,15 @@ impl<'t> Model for NodePattern<'t> {
     ghost Value = { NodePattern };
 
     ghost view = { λ n. record { variable = n.variable; part = n.part.now } };
+}
+
+impl<'t> TryClone for NodePattern<'t> {
+    fn try_clone(&self, _alloc: Global) -> Result<NodePattern<'t>, Memory> {
+        Ok(NodePattern {
+            variable: self.variable,
+            part: self.part,
+        })
+    }
 }
 
 /// A relationship pattern, the number of its MATCH clause, and the node variables at its left and at its right.
@@ -55,6 +74,17 @@ impl<'t> Model for RelPattern<'t> {
       right = r.right;
       part = r.part.now;
     } };
+}
+
+impl<'t> TryClone for RelPattern<'t> {
+    fn try_clone(&self, _alloc: Global) -> Result<RelPattern<'t>, Memory> {
+        Ok(RelPattern {
+            clause: self.clause,
+            left: self.left,
+            right: self.right,
+            part: self.part,
+        })
+    }
 }
 
 /// An entry of a pattern's map, its variable, and what the variable is called.

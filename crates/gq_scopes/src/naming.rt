@@ -4,8 +4,7 @@ ghost use Rattle.std.specs.Prelude.{OnErr};
 ghost use Rattle.std.specs.List.{list_any};
 ghost use Rattle.gq_scopes.specs.Patterns as patterns;
 
-use crate::copies::copy_text;
-use gq_base::{Memory, Text};
+use gq_base::{Memory, Text, TryClone};
 use std::alloc::Global;
 use std::collections::BTreeMap;
 use std::marker::Model;
@@ -90,11 +89,11 @@ impl Names {
         ensures pushed { IfOk result (λ _. self.new ≡ self.old ++ Some name.now ∷ []) }
         ensures kept { OnErr result (self.new ≡ self.old) }
     {
-        let item = copy_text(self.alloc, name)?;
+        let item = name.try_clone(self.alloc)?;
         if self.places.contains_key(name) {
             return push_item(&mut self.list, Some(item));
         }
-        let key = copy_text(self.alloc, name)?;
+        let key = name.try_clone(self.alloc)?;
         let place = self.len();
         push_item(&mut self.list, Some(item))?;
         match self.places.insert(key, place) {

@@ -6,13 +6,12 @@ ghost use Rattle.gq_scopes.specs.Patterns.{with_hops, with_rel, with_part, with_
 ghost use Rattle.gq_scopes.specs.Patterns.{node_again, with_variable};
 ghost use Rattle.gq_scopes.specs.PathPatterns.{path_pattern, with_name, with_names};
 
-use crate::copies::copy_text;
 use crate::counts::{next, number};
 use crate::elements::{NodePattern, RelPattern};
 use crate::patterns::Pattern;
 use crate::variables::{called, known_as, numbers_from, push_entries, push_naming, unnamed_after};
 use gq_ast::{Clause, Entry, Hop, NodePart, Path, RelPart};
-use gq_base::{Memory, Text};
+use gq_base::{Memory, Text, TryClone};
 use gq_plan::{PathPart, Variable};
 use std::alloc::Global;
 
@@ -187,7 +186,7 @@ impl<'t> Pattern<'t> {
             return Ok(());
         }
         self.names.push_name(name)?;
-        self.node_names.push(copy_text(alloc, name)?)
+        self.node_names.push(name.try_clone(alloc)?)
     }
 
     /// The same for the name of each node that a hop leads to.

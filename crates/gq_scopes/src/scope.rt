@@ -4,11 +4,11 @@ ghost use Rattle.gq_scopes.specs.Scopes as scopes;
 ghost use Rattle.gq_scopes.specs.Patterns.{find_name};
 ghost use Rattle.gq_scopes.specs.Scopes.{is_known, is_variable};
 
-use crate::copies::{copy_part, copy_text};
 use crate::copying::Copying;
 use crate::naming::Names;
 use crate::rels::Rels;
-use gq_base::{Memory, Text};
+use crate::renumbering::copy_expr;
+use gq_base::{Memory, Text, TryClone};
 use gq_expr::Expr;
 use std::alloc::Global;
 use std::marker::Model;
@@ -117,9 +117,9 @@ impl<'s> Scope<'s> {
         ensures { IfOk result (λ e. e ≡ scopes.property self.now name.now key.now) }
     {
         match self.nodes.find(name) {
-            Some(at) => Ok(Some(Expr::NodeProperty(at as u32, copy_text(alloc, key)?))),
+            Some(at) => Ok(Some(Expr::NodeProperty(at as u32, key.try_clone(alloc)?))),
             None => match self.rels.find(name) {
-                Some(at) => Ok(Some(Expr::RelProperty(at as u32, copy_text(alloc, key)?))),
+                Some(at) => Ok(Some(Expr::RelProperty(at as u32, key.try_clone(alloc)?))),
                 None => Ok(None),
             },
         }
@@ -170,6 +170,6 @@ pub fn copy_known(
 {
     match expr {
         None => Ok(None),
-        Some(expr) => Ok(Some(copy_part(alloc, copying, expr)?)),
+        Some(expr) => Ok(Some(copy_expr(alloc, copying, expr)?)),
     }
 }

@@ -4,12 +4,11 @@ ghost use Rattle.std.specs.List.{range_with_len};
 ghost use Rattle.gq_scopes.specs.Patterns as patterns;
 ghost use Rattle.gq_scopes.specs.Patterns.{entries_of, naming};
 
-use crate::copies::copy_text;
 use crate::counts::{next, number};
 use crate::elements::{MapEntry, NamedVariable};
 use crate::naming::Names;
 use gq_ast::Entry;
-use gq_base::{List, Memory, Text};
+use gq_base::{List, Memory, Text, TryClone};
 use gq_plan::Variable;
 use std::alloc::Global;
 
@@ -42,7 +41,7 @@ pub(crate) fn called(alloc: Global, unnamed: u32, name: &Option<Text>) -> Result
     ensures { IfOk result (λ t. t ≡ patterns.called unnamed name.now) }
 {
     match name {
-        Some(name) => copy_text(alloc, name),
+        Some(name) => name.try_clone(alloc),
         None => {
             let number = next(unnamed)?;
             match format!(in alloc; "#{number}") {
@@ -95,7 +94,7 @@ pub(crate) fn push_entries<'t>(
         return Err(Memory::Limit);
     }
     for entry in map {
-        let called = copy_text(alloc, called)?;
+        let called = called.try_clone(alloc)?;
         entries.push(MapEntry {
             variable,
             called,

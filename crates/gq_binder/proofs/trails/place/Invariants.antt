@@ -1,5 +1,5 @@
 use Rattle.std.proofs.Common.{◌≡◌, map, take}
-use Rattle.gq_law_cuts.specs.Cuts.{placed_in}
+use Rattle.gq_scopes.specs.Renumbering.{placed_in}
 use Rattle.gq_binder.proofs.trails.place.Given as goal
 
 abbrev pub invariant-loop-node : goal.invariant-loop-node

@@ -1,5 +1,6 @@
 use Rattle.std.proofs.Common.{◌≡◌, ◌∙◌, ap, subst, map, None, [], IfOk}
-use Rattle.gq_law_cuts.specs.Cuts.{listed_in, pattern_in, placed_in, variable_in}
+use Rattle.gq_law_cuts.specs.Cuts.{listed_in, pattern_in, variable_in}
+use Rattle.gq_scopes.specs.Renumbering.{placed_in}
 use Rattle.gq_plan.specs.declared.PathPart.{PathPart}
 use Rattle.gq_scopes.specs.Patterns.{MapEntry, NamedVariable, NodePattern, Pattern, RelPattern}
 use Rattle.gq_core.proofs.Same.{same}
@@ -13,7 +14,7 @@ returns c =
     (c.in_ok-names_in.ensures ∙ ap (λ l. listed_in None l order) c.names.ensures)
     (c.in_ok-named_in.ensures ∙ ap (map (λ (n : NamedVariable). record n { variable = variable_in order n.variable })) c.named.ensures)
     (c.in_ok-texts_in.ensures ∙ ap (λ l. listed_in [] l order) c.node_names.ensures)
-    (c.in_ok-copy_texts.ensures ∙ c.rel_names.ensures)
+    (c.in_ok-copy_all.ensures ∙ c.rel_names.ensures)
     c.unnamed.ensures
     (c.in_ok-nodes_in.ensures ∙ ap (map (λ (n : NodePattern). record n { variable = placed_in order n.variable })) c.nodes.ensures)
     (c.in_ok-rels_in.ensures ∙ ap (map (λ (r : RelPattern). record r { left = placed_in order r.left; right = placed_in order r.right })) c.rels.ensures)

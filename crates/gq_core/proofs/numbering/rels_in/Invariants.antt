@@ -1,5 +1,5 @@
 use Rattle.std.proofs.Common.{◌≡◌, take, map}
-use Rattle.gq_law_cuts.specs.Cuts.{placed_in}
+use Rattle.gq_scopes.specs.Renumbering.{placed_in}
 use Rattle.gq_scopes.specs.Patterns.{RelPattern}
 use Rattle.gq_core.proofs.numbering.rels_in.Given as goal
 
