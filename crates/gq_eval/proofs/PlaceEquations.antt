@@ -110,7 +110,7 @@ places_Arith c e ts = behind_first c (Arith e ts) e (flat_map term_reads ts) _ (
 pub ruleset equations = (places_Literal, places_Node, places_Rel, places_NodeProperty, places_RelProperty, places_TypeName, places_Coalesce, places_Negate, places_Plus, places_Not, places_Or, places_Xor, places_And, places_Compare, places_Test, places_Arith)
 
 -- what it takes to gather places from left to right
-pub ruleset gathering = (equations, append-nil, append_assoc)
+pub ruleset gathering = (append-nil, append_assoc)
 
 -- what variants mean, and the places that they have
 pub ruleset evaluating = (meanings, equations)

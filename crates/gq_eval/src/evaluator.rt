@@ -8,6 +8,7 @@ use crate::evaluate::evaluated;
 use crate::places::add_places;
 use gq_base::{List, Memory, Value};
 use gq_expr::{Assigned, Expr, Fault};
+use gq_plan::BoundExpr;
 use gq_store::Graph;
 use std::alloc::Global;
 use std::marker::Model;
@@ -42,13 +43,17 @@ impl<'g> Model for Evaluator<'g> {
 
 impl<'g> Evaluator<'g> {
     /// An expression over a graph; `Memory` where there is no memory to prepare it.
-    pub fn new(alloc: Global, expr: &'g Expr, graph: &'g Graph) -> Result<Evaluator<'g>, Memory>
+    pub fn new(
+        alloc: Global,
+        expr: &'g BoundExpr,
+        graph: &'g Graph,
+    ) -> Result<Evaluator<'g>, Memory>
         ensures { IfOk result (λ e. e ≡ asked expr.now graph.now) }
     {
         let mut places = List::new(alloc);
         add_places(&mut places, graph, expr)?;
         Ok(Evaluator {
-            expr,
+            expr: expr.get(),
             graph,
             places,
         })

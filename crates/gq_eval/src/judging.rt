@@ -30,8 +30,8 @@ fn behind(verdict: Verdict, fault: Fault) -> Verdict
     }
 }
 
-// One more conjunct: it drops the row where it is false or null.
-fn after(verdict: Verdict, answer: Result<Value<'_>, Fault>) -> Verdict
+/// What was found so far, and one more conjunct: it drops the row where it is false or null.
+pub fn judge_more(verdict: Verdict, answer: Result<Value<'_>, Fault>) -> Verdict
     ensures { result ≡ one_more verdict (outcome answer.entry) }
 {
     match answer {
@@ -50,7 +50,7 @@ pub fn judge<R: Assigned>(conjuncts: &[Evaluator<'_>], row: &R) -> Verdict
 {
     let mut verdict = Verdict::Pass;
     'conjuncts: for conjunct in conjuncts {
-        verdict = after(verdict, conjunct.value(row));
+        verdict = judge_more(verdict, conjunct.value(row));
         if let Verdict::Dropped = verdict {
             return Verdict::Dropped;
         }

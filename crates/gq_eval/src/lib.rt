@@ -12,5 +12,5 @@ mod places;
 mod reading;
 
 pub use evaluator::Evaluator;
-pub use judging::{Verdict, judge};
+pub use judging::{Verdict, judge, judge_more};
 pub use named::evaluators;

@@ -1,14 +1,14 @@
 //! Where the tables of a graph have the properties that an expression reads: of each property, from
 //! left to right, a byte for each table of its kind.
-ghost use Rattle.std.specs.Prelude.{◌≡◌, ◌++◌, ◌<◌, true, flat_map, length, IfOk, IfSome};
+ghost use Rattle.std.specs.Prelude.{◌≡◌, ◌++◌, ◌<◌, true, length, IfOk, IfSome};
 ghost use Rattle.gq_base.specs.Catalogs.{find_field};
 ghost use Rattle.gq_base.specs.Valid.{is_valid};
 ghost use Rattle.gq_store.specs.Cells.{node_fields, rel_fields};
 ghost use Rattle.gq_eval.specs.steps.Places.{byte_place, expr_places, node_places, place_byte};
-ghost use Rattle.gq_eval.specs.steps.Places.{rel_places, tester_places};
+ghost use Rattle.gq_eval.specs.steps.Places.{read_places, rel_places};
 
 use gq_base::{List, Memory, Text, find_field};
-use gq_expr::{ArithOperand, CompareOperand, Expr, ExprTester, Tester};
+use gq_plan::{BoundExpr, Read, Variable};
 use gq_store::Graph;
 
 // The byte of a table without such a property. A table has at most 64.
@@ -62,94 +62,31 @@ fn add_rel_places(places: &mut List<u8>, graph: &Graph, name: &Text) -> Result<(
 }
 
 /// Takes the places of each property that an expression reads.
-#[cycle(add_places)]
-#[tactic(auto, using(crate::proofs::PlaceEquations::gathering))]
-pub(crate) fn add_places(places: &mut List<u8>, graph: &Graph, expr: &Expr) -> Result<(), Memory>
+#[tactic(auto, using(crate::proofs::PlaceEquations::gathering), unfolding(crate::specs::steps::Places::expr_places))]
+pub(crate) fn add_places(
+    places: &mut List<u8>,
+    graph: &Graph,
+    expr: &BoundExpr,
+) -> Result<(), Memory>
     ensures { IfOk result (λ _.
         places.new ≡ places.old ++ expr_places graph.now.catalog expr.now) }
 {
-    match expr {
-        Expr::Literal(_) => Ok(()),
-        Expr::Node(_) => Ok(()),
-        Expr::Rel(_) => Ok(()),
-        Expr::NodeProperty(_, name) => add_node_places(places, graph, name),
-        Expr::RelProperty(_, name) => add_rel_places(places, graph, name),
-        Expr::TypeName(inner) => add_places(places, graph, inner.get()),
-        Expr::Coalesce(all) => add_each(places, graph, all.as_slice()),
-        Expr::Negate(inner) => add_places(places, graph, inner.get()),
-        Expr::Plus(inner) => add_places(places, graph, inner.get()),
-        Expr::Not(inner) => add_places(places, graph, inner.get()),
-        Expr::Or(all) => add_each(places, graph, all.as_slice()),
-        Expr::Xor(all) => add_each(places, graph, all.as_slice()),
-        Expr::And(all) => add_each(places, graph, all.as_slice()),
-        Expr::Compare(first, terms) => {
-            add_places(places, graph, first.get())?;
-            add_compares(places, graph, terms.as_slice())
-        }
-        Expr::Test(first, testers) => {
-            add_places(places, graph, first.get())?;
-            add_testers(places, graph, testers.as_slice())
-        }
-        Expr::Arith(first, terms) => {
-            add_places(places, graph, first.get())?;
-            add_ariths(places, graph, terms.as_slice())
-        }
-    }
-}
-
-#[cycle(add_places)]
-fn add_each(places: &mut List<u8>, graph: &Graph, all: &[Expr]) -> Result<(), Memory>
-    ensures { IfOk result (λ _.
-        places.new ≡ places.old ++ flat_map (expr_places graph.now.catalog) all.now) }
-{
-    for part in all {
-        add_places(places, graph, part)?;
+    for read in expr.reads() {
+        add_read(places, graph, read)?;
     }
     Ok(())
 }
 
-#[cycle(add_places)]
-fn add_compares(
-    places: &mut List<u8>,
-    graph: &Graph,
-    terms: &[CompareOperand],
-) -> Result<(), Memory>
+#[tactic(auto, using(crate::proofs::PlaceEquations::gathering))]
+fn add_read(places: &mut List<u8>, graph: &Graph, read: &Read) -> Result<(), Memory>
     ensures { IfOk result (λ _.
-        places.new
-        ≡ places.old ++ flat_map (λ t. expr_places graph.now.catalog t.expr) terms.now) }
+        places.new ≡ places.old ++ read_places graph.now.catalog read.now) }
 {
-    for term in terms {
-        add_places(places, graph, &term.expr)?;
+    match (read.variable, &read.property) {
+        (_, None) => Ok(()),
+        (Variable::Node(_), Some(name)) => add_node_places(places, graph, name),
+        (Variable::Rel(_), Some(name)) => add_rel_places(places, graph, name),
     }
-    Ok(())
-}
-
-#[cycle(add_places)]
-fn add_ariths(places: &mut List<u8>, graph: &Graph, terms: &[ArithOperand]) -> Result<(), Memory>
-    ensures { IfOk result (λ _.
-        places.new
-        ≡ places.old ++ flat_map (λ t. expr_places graph.now.catalog t.expr) terms.now) }
-{
-    for term in terms {
-        add_places(places, graph, &term.expr)?;
-    }
-    Ok(())
-}
-
-#[cycle(add_places)]
-fn add_testers(places: &mut List<u8>, graph: &Graph, testers: &[ExprTester]) -> Result<(), Memory>
-    ensures { IfOk result (λ _.
-        places.new ≡ places.old ++ flat_map (tester_places graph.now.catalog) testers.now) }
-{
-    for tester in testers {
-        match tester {
-            Tester::IsNull => {}
-            Tester::IsNotNull => {}
-            Tester::Member(_) => {}
-            Tester::Text(_, part) => add_places(places, graph, part)?,
-        }
-    }
-    Ok(())
 }
 
 /// The place of a property in a node table, of the places of its name. The graph and the name are

@@ -10,7 +10,7 @@ pub returns-in-Dropped : goal.returns-in-Dropped
 returns-in-Dropped g c =
     let m : Asked → Outcome = λ a. meaning a.graph (g.R.Assigned.assignment c.args.row.now) a.expr in
     ap marks_of
-    (sym (stops m c.args.conjuncts.now c.conjunct-item.result c.conjuncts.verdict c.conjuncts.conjunct-index _ c.conjuncts-test.true c.conjunct-item.is (sym c.in-Dropped.is ∙ c.after-verdict.ensures) c.value.ensures)
+    (sym (stops m c.args.conjuncts.now c.conjunct-item.result c.conjuncts.verdict c.conjuncts.conjunct-index _ c.conjuncts-test.true c.conjunct-item.is (sym c.in-Dropped.is ∙ c.judge_more-verdict.ensures) c.value.ensures)
     ∙ c.conjuncts.invariant)
     ∙ judged_so (answers (g.R.Assigned.assignment c.args.row.now) c.args.conjuncts.now)
 
