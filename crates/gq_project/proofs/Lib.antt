@@ -1,3 +1,2 @@
-mod Dropping
 pub mod Looking
 pub mod Ready

@@ -18,60 +18,61 @@ use Rattle.gq_plan.specs.declared.bound.Bound.{Bound}
 use Rattle.gq_plan.specs.declared.bound.NamedExpr.{NamedExpr}
 use Rattle.gq_plan.specs.Outcomes.{meanings_of, key_meanings, outcome_by, Row, drops, behind_condition, behind_conditions, values, then_with, row_with}
 use Rattle.gq_project.specs.Reading.{at_numbers}
-use Rattle.gq_project.specs.Judged.{behind, one_more, check_after, values_after, Kept, Judges, PushesValues}
+use Rattle.gq_project.specs.Judged.{values_after, Kept, Judges, PushesValues}
 use Rattle.gq_kept.specs.declared.refusal.RowRefusal.{RowRefusal}
 use Rattle.gq_kept.specs.declared.refusal.RowRefusal.TheVariants as refusal
-use Rattle.gq_project.proofs.Dropping.{stays_dropped}
-use Rattle.gq_project.specs.declared.judging.Checked.{Checked}
-use Rattle.gq_project.specs.declared.judging.Checked.TheVariants as checked
+use Rattle.gq_eval.proofs.Verdicts.{stays_dropped}
+use Rattle.gq_eval.specs.Judged.{behind, judged_after, one_more}
+use Rattle.gq_eval.specs.declared.judging.Verdict.{Verdict}
+use Rattle.gq_eval.specs.declared.judging.Verdict.TheVariants as verdict
 
 -- what is said of an outcome that comes behind what was found
-abbrev pub found_then : {A : Type 0} → Checked → Result A Fault → Result A Fault
-found_then checked.Met later = later
-found_then (checked.Faulty f) later = Err f
-found_then checked.Dropped later = later
+abbrev pub found_then : {A : Type 0} → Verdict → Result A Fault → Result A Fault
+found_then verdict.Pass later = later
+found_then (verdict.Fault f) later = Err f
+found_then verdict.Dropped later = later
 
 -- what a look at some conditions tells of all that comes later
-abbrev pub Tells : Checked → List Outcome → Checked → Type 0
-Tells c os checked.Dropped = list_any drops os ≡ true
+abbrev pub Tells : Verdict → List Outcome → Verdict → Type 0
+Tells c os verdict.Dropped = list_any drops os ≡ true
 Tells c os d = (list_any drops os ≡ false) × ((later : Result Row Fault) → found_then c (behind_conditions os later) ≡ found_then d later)
 
-abbrev IsGoing : Checked → Type 0
-IsGoing checked.Dropped = ⊥
+abbrev IsGoing : Verdict → Type 0
+IsGoing verdict.Dropped = ⊥
 IsGoing c = Unit {0}
 
-going_behind : (c : Checked) (f : Fault) → IsGoing c → IsGoing (behind c f)
-going_behind checked.Met f g = tt
-going_behind (checked.Faulty e) f g = tt
-going_behind checked.Dropped f g = g
+going_behind : (c : Verdict) (f : Fault) → IsGoing c → IsGoing (behind c f)
+going_behind verdict.Pass f g = tt
+going_behind (verdict.Fault e) f g = tt
+going_behind verdict.Dropped f g = g
 
-found_behind : {A : Type 0} (c : Checked) (f : Fault) (later : Result A Fault) → IsGoing c → found_then c (Err f) ≡ found_then (behind c f) later
-found_behind checked.Met f later g = refl
-found_behind (checked.Faulty e) f later g = refl
-found_behind checked.Dropped f later g = absurd g
+found_behind : {A : Type 0} (c : Verdict) (f : Fault) (later : Result A Fault) → IsGoing c → found_then c (Err f) ≡ found_then (behind c f) later
+found_behind verdict.Pass f later g = refl
+found_behind (verdict.Fault e) f later g = refl
+found_behind verdict.Dropped f later g = absurd g
 
-dropped : (c : Checked) (o : Outcome) (os : List Outcome) → drops o ≡ true → Tells c (o ∷ os) (check_after checked.Dropped os)
+dropped : (c : Verdict) (o : Outcome) (os : List Outcome) → drops o ≡ true → Tells c (o ∷ os) (judged_after verdict.Dropped os)
 dropped c o os e = subst (Tells c (o ∷ os)) (sym (stays_dropped os)) (rw e refl)
 
 -- a condition that does not drop
-pass : (c d : Checked) (o : Outcome) (os : List Outcome) (e : Checked) → drops o ≡ false
+pass : (c d : Verdict) (o : Outcome) (os : List Outcome) (e : Verdict) → drops o ≡ false
     → ((later : Result Row Fault) → found_then c (behind_condition o later) ≡ found_then d later) → Tells d os e → Tells c (o ∷ os) e
-pass c d o os checked.Dropped e same t = rw e t
-pass c d o os checked.Met e same t = (rw e t.0, λ later. same (behind_conditions os later) ∙ t.1 later)
-pass c d o os (checked.Faulty f) e same t = (rw e t.0, λ later. same (behind_conditions os later) ∙ t.1 later)
+pass c d o os verdict.Dropped e same t = rw e t
+pass c d o os verdict.Pass e same t = (rw e t.0, λ later. same (behind_conditions os later) ∙ t.1 later)
+pass c d o os (verdict.Fault f) e same t = (rw e t.0, λ later. same (behind_conditions os later) ∙ t.1 later)
 
-pub checks : (c : Checked) (os : List Outcome) → IsGoing c → Tells c os (check_after c os)
-checks checked.Met [] g = (refl, λ later. refl)
-checks (checked.Faulty f) [] g = (refl, λ later. refl)
-checks checked.Dropped [] g = absurd g
+pub checks : (c : Verdict) (os : List Outcome) → IsGoing c → Tells c os (judged_after c os)
+checks verdict.Pass [] g = (refl, λ later. refl)
+checks (verdict.Fault f) [] g = (refl, λ later. refl)
+checks verdict.Dropped [] g = absurd g
 checks c (Ok null ∷ os) g = dropped c (Ok null) os refl
 checks c (Ok (flag false) ∷ os) g = dropped c (Ok (flag false)) os refl
-checks c (Ok (flag true) ∷ os) g = pass c c (Ok (flag true)) os (check_after c os) refl (λ later. refl) (checks c os g)
-checks c (Ok (int z) ∷ os) g = pass c (behind c Kind) (Ok (int z)) os (check_after (behind c Kind) os) refl (λ later. found_behind c Kind later g) (checks (behind c Kind) os (going_behind c Kind g))
-checks c (Ok (str z) ∷ os) g = pass c (behind c Kind) (Ok (str z)) os (check_after (behind c Kind) os) refl (λ later. found_behind c Kind later g) (checks (behind c Kind) os (going_behind c Kind g))
-checks c (Ok (node z) ∷ os) g = pass c (behind c Kind) (Ok (node z)) os (check_after (behind c Kind) os) refl (λ later. found_behind c Kind later g) (checks (behind c Kind) os (going_behind c Kind g))
-checks c (Ok (rel z) ∷ os) g = pass c (behind c Kind) (Ok (rel z)) os (check_after (behind c Kind) os) refl (λ later. found_behind c Kind later g) (checks (behind c Kind) os (going_behind c Kind g))
-checks c (Err f ∷ os) g = pass c (behind c f) (Err f) os (check_after (behind c f) os) refl (λ later. found_behind c f later g) (checks (behind c f) os (going_behind c f g))
+checks c (Ok (flag true) ∷ os) g = pass c c (Ok (flag true)) os (judged_after c os) refl (λ later. refl) (checks c os g)
+checks c (Ok (int z) ∷ os) g = pass c (behind c Kind) (Ok (int z)) os (judged_after (behind c Kind) os) refl (λ later. found_behind c Kind later g) (checks (behind c Kind) os (going_behind c Kind g))
+checks c (Ok (str z) ∷ os) g = pass c (behind c Kind) (Ok (str z)) os (judged_after (behind c Kind) os) refl (λ later. found_behind c Kind later g) (checks (behind c Kind) os (going_behind c Kind g))
+checks c (Ok (node z) ∷ os) g = pass c (behind c Kind) (Ok (node z)) os (judged_after (behind c Kind) os) refl (λ later. found_behind c Kind later g) (checks (behind c Kind) os (going_behind c Kind g))
+checks c (Ok (rel z) ∷ os) g = pass c (behind c Kind) (Ok (rel z)) os (judged_after (behind c Kind) os) refl (λ later. found_behind c Kind later g) (checks (behind c Kind) os (going_behind c Kind g))
+checks c (Err f ∷ os) g = pass c (behind c f) (Err f) os (judged_after (behind c f) os) refl (λ later. found_behind c f later g) (checks (behind c f) os (going_behind c f g))
 
 -- values behind others
 abbrev front : List Val → Result (List Val) Fault → Result (List Val) Fault
@@ -124,37 +125,37 @@ failed_by os old f (Err e') e h = e ∙ h
 pub failed : (os : List Outcome) (old : List Val) (f : Fault) → values_after old os ≡ Err f → values os ≡ Err f
 failed os old f h = failed_by os old f (values os) refl (sym (after old os) ∙ h)
 
-told : (os : List Outcome) (d : Checked) → d ≡ check_after checked.Met os → Tells checked.Met os d
-told os d e = subst (Tells checked.Met os) (sym e) (checks checked.Met os tt)
+told : (os : List Outcome) (d : Verdict) → d ≡ judged_after verdict.Pass os → Tells verdict.Pass os d
+told os d e = subst (Tells verdict.Pass os) (sym e) (checks verdict.Pass os tt)
 
 module _ (g : Graph) (bound : Bound) (late : List NamedExpr) (row : reading.Assignment) where
   abbrev conditions : List Outcome
   conditions = meanings_of g row late
 
-  pub when_dropped : checked.Dropped ≡ check_after checked.Met conditions → outcome_by g bound late row ≡ None
+  pub when_dropped : verdict.Dropped ≡ judged_after verdict.Pass conditions → outcome_by g bound late row ≡ None
   unfolding outcome_by
-  when_dropped e = rw (told conditions checked.Dropped e) refl
+  when_dropped e = rw (told conditions verdict.Dropped e) refl
 
-  pub when_faulty : (f : Fault) → checked.Faulty f ≡ check_after checked.Met conditions → outcome_by g bound late row ≡ Some (Err f)
+  pub when_faulty : (f : Fault) → verdict.Fault f ≡ judged_after verdict.Pass conditions → outcome_by g bound late row ≡ Some (Err f)
   unfolding outcome_by
-  when_faulty f e = let t = told conditions (checked.Faulty f) e in rw t.0 (ap Some (t.1 (row_with (meanings_of g row bound.columns) (key_meanings g row bound.keys))))
+  when_faulty f e = let t = told conditions (verdict.Fault f) e in rw t.0 (ap Some (t.1 (row_with (meanings_of g row bound.columns) (key_meanings g row bound.keys))))
 
-  pub met : checked.Met ≡ check_after checked.Met conditions → outcome_by g bound late row ≡ Some (row_with (meanings_of g row bound.columns) (key_meanings g row bound.keys))
+  pub met : verdict.Pass ≡ judged_after verdict.Pass conditions → outcome_by g bound late row ≡ Some (row_with (meanings_of g row bound.columns) (key_meanings g row bound.keys))
   unfolding outcome_by
-  met e = let t = told conditions checked.Met e in rw t.0 (ap Some (t.1 (row_with (meanings_of g row bound.columns) (key_meanings g row bound.keys))))
+  met e = let t = told conditions verdict.Pass e in rw t.0 (ap Some (t.1 (row_with (meanings_of g row bound.columns) (key_meanings g row bound.keys))))
 
-  pub when_column : (f : Fault) (old : List Val) → checked.Met ≡ check_after checked.Met conditions → values_after old (meanings_of g row bound.columns) ≡ Err f
+  pub when_column : (f : Fault) (old : List Val) → verdict.Pass ≡ judged_after verdict.Pass conditions → values_after old (meanings_of g row bound.columns) ≡ Err f
       → outcome_by g bound late row ≡ Some (Err f)
   when_column f old e h = met e ∙ ap (λ v. Some (then_with v (λ vs. then_with (values (key_meanings g row bound.keys)) (λ ks. Ok (record { columns = vs; keys = ks }))))) (failed (meanings_of g row bound.columns) old f h)
 
-  pub when_key : (f : Fault) (old new more : List Val) → checked.Met ≡ check_after checked.Met conditions → values_after old (meanings_of g row bound.columns) ≡ Ok new
+  pub when_key : (f : Fault) (old new more : List Val) → verdict.Pass ≡ judged_after verdict.Pass conditions → values_after old (meanings_of g row bound.columns) ≡ Ok new
       → values_after more (key_meanings g row bound.keys) ≡ Err f → outcome_by g bound late row ≡ Some (Err f)
   when_key f old new more e h k =
       let a = appended (meanings_of g row bound.columns) old new h in
       met e ∙ ap (λ v. Some (then_with v (λ vs. then_with (values (key_meanings g row bound.keys)) (λ ks. Ok (record { columns = vs; keys = ks }))))) a.is
       ∙ ap (λ v. Some (then_with v (λ ks. Ok (record { columns = a.more; keys = ks })))) (failed (key_meanings g row bound.keys) more f k)
 
-  pub when_kept : (old new old_keys new_keys : List Value) → checked.Met ≡ check_after checked.Met conditions → values_after (map val old) (meanings_of g row bound.columns) ≡ Ok (map val new)
+  pub when_kept : (old new old_keys new_keys : List Value) → verdict.Pass ≡ judged_after verdict.Pass conditions → values_after (map val old) (meanings_of g row bound.columns) ≡ Ok (map val new)
       → values_after (map val old_keys) (key_meanings g row bound.keys) ≡ Ok (map val new_keys) → Kept (length bound.columns) (length bound.keys) (outcome_by g bound late row) old new old_keys new_keys
   when_kept old new old_keys new_keys e h k =
       let a = appended (meanings_of g row bound.columns) (map val old) (map val new) h in
@@ -169,24 +170,24 @@ module _ (g : Graph) (bound : Bound) (late : List NamedExpr) (row : reading.Assi
         key_count = b.size ∙ length-map bound.keys _;
       }
 
-  pub column_failed : (r : RowRefusal) (old new keys : List Value) → checked.Met ≡ check_after checked.Met conditions → PushesValues (meanings_of g row bound.columns) old new (Err r)
+  pub column_failed : (r : RowRefusal) (old new keys : List Value) → verdict.Pass ≡ judged_after verdict.Pass conditions → PushesValues (meanings_of g row bound.columns) old new (Err r)
       → Judges (length bound.columns) (length bound.keys) (outcome_by g bound late row) old new keys keys (Err r)
   column_failed (refusal.Fault f) old new keys e h = when_column f (map val old) e h
   column_failed (refusal.TooManyRows limit) old new keys e h = absurd h
   column_failed (refusal.Memory why) old new keys e h = tt
 
-  pub key_failed : (r : RowRefusal) (old new old_keys new_keys : List Value) → checked.Met ≡ check_after checked.Met conditions → values_after (map val old) (meanings_of g row bound.columns) ≡ Ok (map val new)
+  pub key_failed : (r : RowRefusal) (old new old_keys new_keys : List Value) → verdict.Pass ≡ judged_after verdict.Pass conditions → values_after (map val old) (meanings_of g row bound.columns) ≡ Ok (map val new)
       → PushesValues (key_meanings g row bound.keys) old_keys new_keys (Err r) → Judges (length bound.columns) (length bound.keys) (outcome_by g bound late row) old new old_keys new_keys (Err r)
   key_failed (refusal.Fault f) old new old_keys new_keys e h k = when_key f (map val old) (map val new) (map val old_keys) e h k
   key_failed (refusal.TooManyRows limit) old new old_keys new_keys e h k = absurd k
   key_failed (refusal.Memory why) old new old_keys new_keys e h k = tt
 
 -- a condition that drops ends the look
-pub stops : (row : reading.Assignment) (conjuncts : List Asked) (a : Asked) (c : Checked) (i : ℕ) (late : List ℕ) (o : Outcome) → i < length late
-    → Some a ≡ slice_get conjuncts (get_or late i 0) → checked.Dropped ≡ one_more c o → o ≡ meaning a.graph row a.expr
-    → check_after c (answers row (at_numbers conjuncts (drop i late))) ≡ checked.Dropped
+pub stops : (row : reading.Assignment) (conjuncts : List Asked) (a : Asked) (c : Verdict) (i : ℕ) (late : List ℕ) (o : Outcome) → i < length late
+    → Some a ≡ slice_get conjuncts (get_or late i 0) → verdict.Dropped ≡ one_more c o → o ≡ meaning a.graph row a.expr
+    → judged_after c (answers row (at_numbers conjuncts (drop i late))) ≡ verdict.Dropped
 stops row conjuncts a c i late o lt at drops is =
-    ap (λ l. check_after c (answers row (at_numbers conjuncts l))) (drop-cons late i 0 lt)
-    ∙ ap (λ x. check_after c (answers row (found x ++ at_numbers conjuncts (drop (suc i) late)))) (sym at)
-    ∙ ap (λ d. check_after d (answers row (at_numbers conjuncts (drop (suc i) late)))) (ap (one_more c) (sym is) ∙ sym drops)
+    ap (λ l. judged_after c (answers row (at_numbers conjuncts l))) (drop-cons late i 0 lt)
+    ∙ ap (λ x. judged_after c (answers row (found x ++ at_numbers conjuncts (drop (suc i) late)))) (sym at)
+    ∙ ap (λ d. judged_after d (answers row (at_numbers conjuncts (drop (suc i) late)))) (ap (one_more c) (sym is) ∙ sym drops)
     ∙ stays_dropped (answers row (at_numbers conjuncts (drop (suc i) late)))

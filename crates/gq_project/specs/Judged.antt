@@ -1,16 +1,16 @@
 -- What a look at an assignment tells, step by step.
 use Rattle.std.specs.Prelude.{◌≡◌, ℕ, Bool, true, false, Option, Some, None, Result, Ok, Err, List, [], ◌∷◌, ◌++◌, map, length}
-use Rattle.gq_base.specs.Values.{Val, null, flag, val}
+use Rattle.gq_base.specs.Values.{Val, val}
 use Rattle.gq_base.specs.declared.Value.{Value}
 use Rattle.gq_expr.specs.Operators.{Outcome}
 use Rattle.gq_expr.specs.declared.Fault.{Fault}
-use Rattle.gq_expr.specs.declared.Fault.TheVariants.{Kind}
 use Rattle.gq_plan.specs.Outcomes.{Row, meanings_of, then_with}
 use Rattle.gq_expr.specs.Reading as reading
 use Rattle.gq_kept.specs.Tables.{numbered, outcome_numbered}
 use Rattle.gq_project.specs.Reading.{IsReading}
-use Rattle.gq_project.specs.declared.judging.Checked.{Checked}
-use Rattle.gq_project.specs.declared.judging.Checked.TheVariants as checked
+use Rattle.gq_eval.specs.Judged.{judged_after}
+use Rattle.gq_eval.specs.declared.judging.Verdict.{Verdict}
+use Rattle.gq_eval.specs.declared.judging.Verdict.TheVariants as verdict
 use Rattle.gq_project.specs.declared.judging.Question.{Question}
 use Rattle.gq_kept.specs.declared.refusal.RowRefusal.{RowRefusal}
 use Rattle.gq_kept.specs.declared.refusal.RowRefusal.TheVariants as refusal
@@ -30,26 +30,9 @@ key_count q = length q.bound.now.keys
 abbrev pub IsRead : Question → Type 0
 IsRead q = IsReading q.graph.now q.bound.now q.reading.now
 
--- what was found so far, and one more fault
-abbrev pub behind : Checked → Fault → Checked
-behind checked.Met f = checked.Faulty f
-behind c f = c
-
--- one more condition: it drops where it is false or null
-abbrev pub one_more : Checked → Outcome → Checked
-one_more c (Ok null) = checked.Dropped
-one_more c (Ok (flag true)) = c
-one_more c (Ok (flag false)) = checked.Dropped
-one_more c (Ok v) = behind c Kind
-one_more c (Err f) = behind c f
-
-abbrev pub check_after : Checked → List Outcome → Checked
-check_after c [] = c
-check_after c (o ∷ os) = check_after (one_more c o) os
-
 -- what the conjuncts that are left say of what expressions read
-abbrev pub late_checked : Question → reading.Assignment → Checked
-late_checked q here = check_after checked.Met (meanings_of q.graph.now here (numbered q.bound.now.conjuncts q.late.now))
+abbrev pub late_checked : Question → reading.Assignment → Verdict
+late_checked q here = judged_after verdict.Pass (meanings_of q.graph.now here (numbered q.bound.now.conjuncts q.late.now))
 
 -- values behind others, or the first fault
 abbrev pub values_after : List Val → List Outcome → Result (List Val) Fault

@@ -1,17 +1,16 @@
 //! What a query makes of an assignment: it drops it, faults, or gives it the values of a row.
 ghost use Rattle.std.specs.Prelude.{◌≡◌};
 ghost use Rattle.gq_eval.specs.Asked.{answers};
-ghost use Rattle.gq_expr.specs.Operators.{outcome};
-ghost use Rattle.gq_project.specs.Judged.{IsRead, Judges, PushesValues, asked_outcome, behind};
-ghost use Rattle.gq_project.specs.Judged.{check_after, column_count, key_count, late_checked};
-ghost use Rattle.gq_project.specs.Judged.{one_more};
+ghost use Rattle.gq_eval.specs.Judged.{judged_after};
+ghost use Rattle.gq_eval.specs.declared.judging.Verdict.TheVariants.{Pass};
+ghost use Rattle.gq_project.specs.Judged.{IsRead, Judges, PushesValues, asked_outcome};
+ghost use Rattle.gq_project.specs.Judged.{column_count, key_count, late_checked};
 ghost use Rattle.gq_project.specs.Reading.{at_numbers};
-ghost use Rattle.gq_project.specs.declared.judging.Checked.TheVariants.{Met};
 
 use crate::reading::Reading;
 use gq_base::{List, Memory, Value};
-use gq_eval::Evaluator;
-use gq_expr::{Assigned, Fault};
+use gq_eval::{Evaluator, Verdict, judge_more};
+use gq_expr::Assigned;
 use gq_kept::RowRefusal;
 use gq_plan::Bound;
 use gq_store::Graph;
@@ -30,53 +29,23 @@ pub struct Question<'q, 'g> {
     pub reading: &'q Reading<'g>,
 }
 
-/// What conditions say of an assignment.
-#[derive(Clone, Copy)]
-pub enum Checked {
-    Met,
-    Faulty(Fault),
-    Dropped,
-}
-
-// The first fault counts.
-fn behind(checked: Checked, fault: Fault) -> Checked
-    ensures { result ≡ behind checked fault }
-{
-    match checked {
-        Checked::Met => Checked::Faulty(fault),
-        Checked::Faulty(_) | Checked::Dropped => checked,
-    }
-}
-
-// One more condition: it drops where it is false or null.
-fn after(checked: Checked, answer: Result<Value<'_>, Fault>) -> Checked
-    ensures { result ≡ one_more checked (outcome answer.entry) }
-{
-    match answer {
-        Ok(Value::Null) | Ok(Value::Flag(false)) => Checked::Dropped,
-        Ok(Value::Flag(true)) => checked,
-        Ok(_) => behind(checked, Fault::Kind),
-        Err(fault) => behind(checked, fault),
-    }
-}
-
 /// Looks at the conjuncts that are left, by their numbers: one that drops counts before any fault,
 /// also an earlier one.
-#[tactic(auto, using(crate::proofs::Dropping::stays_dropped))]
-pub fn check_late<R: Assigned>(conjuncts: &List<Evaluator<'_>>, late: &[u32], row: &R) -> Checked
+#[tactic(auto, using(gq_eval::proofs::Verdicts::stays_dropped))]
+pub fn check_late<R: Assigned>(conjuncts: &List<Evaluator<'_>>, late: &[u32], row: &R) -> Verdict
     ensures { let left = at_numbers conjuncts.now late.now in
-        result ≡ check_after Met (answers (R.assignment row.now) left) }
+        result ≡ judged_after Pass (answers (R.assignment row.now) left) }
 {
-    let mut checked = Checked::Met;
+    let mut verdict = Verdict::Pass;
     'late: for number in late {
         if let Some(conjunct) = conjuncts.get(*number as usize) {
-            checked = after(checked, conjunct.value(row));
-            if let Checked::Dropped = checked {
-                return Checked::Dropped;
+            verdict = judge_more(verdict, conjunct.value(row));
+            if let Verdict::Dropped = verdict {
+                return Verdict::Dropped;
             }
         }
     }
-    checked
+    verdict
 }
 
 // Appends the values of expressions.
@@ -98,7 +67,7 @@ fn push_values<'g, R: Assigned>(
 }
 
 /// What the conjuncts that are left say of an assignment.
-pub fn check<R: Assigned>(question: &Question<'_, '_>, row: &R) -> Checked
+pub fn check<R: Assigned>(question: &Question<'_, '_>, row: &R) -> Verdict
     requires { IsRead question.now }
     ensures { result ≡ late_checked question.now (R.assignment row.now) }
 {
@@ -108,7 +77,7 @@ pub fn check<R: Assigned>(question: &Question<'_, '_>, row: &R) -> Checked
 /// Appends the values of an assignment's row, or answers false where the conjuncts that are left
 /// drop it. After a refusal some of the values may stand there.
 pub fn judge<'g, R: Assigned>(
-    checked: Checked,
+    checked: Verdict,
     columns: &mut Vec<Value<'g>>,
     keys: &mut Vec<Value<'g>>,
     question: &Question<'_, 'g>,
@@ -121,9 +90,9 @@ pub fn judge<'g, R: Assigned>(
         columns.old.items columns.new.items keys.old.items keys.new.items result }
 {
     match checked {
-        Checked::Dropped => return Ok(false),
-        Checked::Faulty(fault) => return Err(RowRefusal::Fault(fault)),
-        Checked::Met => {}
+        Verdict::Dropped => return Ok(false),
+        Verdict::Fault(fault) => return Err(RowRefusal::Fault(fault)),
+        Verdict::Pass => {}
     }
     match push_values(columns, question.reading.columns.as_slice(), row) {
         Ok(()) => {}

@@ -9,5 +9,5 @@ mod judging;
 mod reading;
 
 pub use admitting::{Admits, Everything};
-pub use judging::{Checked, Question, check, check_late, judge};
+pub use judging::{Question, check, check_late, judge};
 pub use reading::Reading;

@@ -58,7 +58,7 @@ impl<'g> RowTable<'g> {
         let Some(sort) = self.bound.keys.get(0) else {
             return Ok(None);
         };
-        let finder = first.prepare(&sort.expr, self.bound, typed, graph)?;
+        let finder = first.prepare(sort.expr.get(), self.bound, typed, graph)?;
         Ok(hold_key(finder, graph, typed, chunk, positions))
     }
 

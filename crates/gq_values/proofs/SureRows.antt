@@ -19,10 +19,10 @@ use Rattle.gq_plan.specs.declared.bound.NamedExpr.{NamedExpr}
 use Rattle.gq_plan.specs.declared.bound.SortExpr.{SortExpr}
 use Rattle.gq_kept.specs.Answers.{by_direction, first_value, keys_order, other_values}
 use Rattle.gq_values.specs.Sure.{AreSure, AreValues, HasSureColumn, HasSureKey, StartsWith}
-use Rattle.gq_project.specs.Judged.{check_after}
+use Rattle.gq_eval.specs.Judged.{judged_after}
 use Rattle.gq_values.specs.Keeping.{ComesBehind, IsBehind, bar_of}
 use Rattle.gq_values.specs.declared.held.Rows.{Rows}
-use Rattle.gq_project.specs.declared.judging.Checked.TheVariants as checked
+use Rattle.gq_eval.specs.declared.judging.Verdict.TheVariants as verdict
 use Rattle.gq_project.proofs.Looking.{met}
 
 -- values, of which no outcome is a fault
@@ -52,7 +52,7 @@ module _ (g : Graph) (here : reading.Assignment) where
   sure_keys (s ∷ ss) h = (h.0 g here, sure_keys ss h.1)
 
   -- where the conjuncts are met, the row that comes behind the bar is known by how the bar compares with its keys
-  pub left_behind : (b : Bound) (late : List NamedExpr) (v : Rows) (bar : List Val) (order : Ordering) → AreSure b → checked.Met ≡ check_after checked.Met (meanings_of g here late)
+  pub left_behind : (b : Bound) (late : List NamedExpr) (v : Rows) (bar : List Val) (order : Ordering) → AreSure b → verdict.Pass ≡ judged_after verdict.Pass (meanings_of g here late)
       → Some bar ≡ bar_of v
       → ((keys : List Val) → AreValues keys (key_meanings g here b.keys) → order ≡ keys_order b.keys bar keys)
       → is_le order ≡ true → ComesBehind b (outcome_by g b late here) v

@@ -28,7 +28,7 @@ fn are_sure_columns(columns: &[NamedExpr]) -> bool
 {
     match columns {
         [] => true,
-        [column, columns @ ..] => is_sure(&column.expr) && are_sure_columns(columns),
+        [column, columns @ ..] => is_sure(column.expr.get()) && are_sure_columns(columns),
     }
 }
 
@@ -37,7 +37,7 @@ fn are_sure_keys(keys: &[SortExpr]) -> bool
 {
     match keys {
         [] => true,
-        [key, keys @ ..] => is_sure(&key.expr) && are_sure_keys(keys),
+        [key, keys @ ..] => is_sure(key.expr.get()) && are_sure_keys(keys),
     }
 }
 

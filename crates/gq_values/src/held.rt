@@ -20,10 +20,11 @@ use crate::bar::rank_of_bar;
 use crate::sorting::{cut, direct, is_level_or_behind, last_keys, split_first};
 use gq_base::{Memory, Value};
 use gq_classes::Classes as ClassRows;
+use gq_eval::Verdict;
 use gq_expr::Assigned;
 use gq_kept::{More, RowRefusal, may_keep};
 use gq_plan::Bound;
-use gq_project::{Checked, Question, check, judge};
+use gq_project::{Question, check, judge};
 use std::alloc::Global;
 
 /// The values of rows, one row after another: those of the columns, and those of the keys. With
@@ -43,7 +44,7 @@ impl<'g> Rows<'g> {
     // Adds the row of an assignment, unless it is dropped.
     fn add<R: Assigned>(
         &mut self,
-        checked: Checked,
+        checked: Verdict,
         question: &Question<'_, 'g>,
         row: &R,
         may: bool,
@@ -130,7 +131,7 @@ impl<'g> Rows<'g> {
     // before its values are made.
     fn is_left_behind<R: Assigned>(
         &self,
-        checked: Checked,
+        checked: Verdict,
         question: &Question<'_, 'g>,
         row: &R,
     ) -> bool
@@ -143,7 +144,7 @@ impl<'g> Rows<'g> {
         if !question.sure {
             return false;
         }
-        let Checked::Met = checked else {
+        let Verdict::Pass = checked else {
             return false;
         };
         match &self.bar {

@@ -12,7 +12,7 @@ returns-in-Some g c = λ e.
     let here = g.R.Assigned.assignment c.args.row.now in
     let keys = keys_mean q.graph.now here q.bound.now.keys c.as_slice-keys.result.now (c.as_slice-keys.ensures ∙ c.requires.reading.keys) in
     left_behind q.graph.now here q.bound.now (numbered q.bound.now.conjuncts q.late.now) c.args.self.now (map val c.in-Some.bar.items) c.rank_of_bar.result
-    (c.requires.sure c.if-not-question.false) (sym c.in-Met.is ∙ c.requires.checked) (sym (ap (option_map (λ v. map val v.items)) c.in-Some.is))
+    (c.requires.sure c.if-not-question.false) (sym c.in-Pass.is ∙ c.requires.checked) (sym (ap (option_map (λ v. map val v.items)) c.in-Some.is))
     (rw (c.as_slice-sorts.ensures, c.as_slice.ensures.value, keys) at c.rank_of_bar.ensures) (sym c.is_le.ensures ∙ e)
 
 pub rank_of_bar-requires : goal.rank_of_bar-requires
