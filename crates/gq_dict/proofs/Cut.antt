@@ -1,11 +1,12 @@
 -- Texts that stand side by side: where each of them begins, and one more behind the others.
-use Rattle.std.proofs.Common.{◌≡◌, ℕ, zero, suc, ◌-◌, ◌<◌, ◌≤◌, List, [], ◌∷◌, ◌++◌, length, get_or, take, drop, map, refl, sym, ap, ◌∙◌, subst, arith, below_more, length-append}
+use Rattle.std.proofs.Common.{◌≡◌, ℕ, zero, suc, ◌+◌, ◌-◌, ◌<◌, ◌≤◌, List, [], ◌∷◌, ◌++◌, length, get_or, take, drop, map, refl, sym, ap, ◌∙◌, subst, arith, below_more, length-append}
 use Rattle.std.specs.Prelude.{slice_range}
-use Rattle.std.specs.List.{range_with_len}
+use Rattle.std.specs.List.{concat, range_with_len}
 use Rattle.std.specs.Str.{IsUtf8}
-use Rattle.std.proofs.lemmas.List.{drop-append-le, take-append-le, drop_at, ext_get_or, get_or_append_left, get_or_default, get_or_push, length-drop, length_push, take_all}
+use Rattle.std.proofs.lemmas.List.Folds.{concat-append}
+use Rattle.std.proofs.lemmas.List.{append-nil, drop-append-le, take-append-le, drop_at, ext_get_or, get_or_append_left, get_or_default, get_or_push, length-drop, length-take-le, length_push, take_all, take_more}
 use Rattle.std.proofs.lemmas.List.FromFn.{get_or-map-range_with_len, length-map-range_with_len, map-range_with_len_more}
-use Rattle.gq_dict.specs.Texts.{text_at}
+use Rattle.gq_dict.specs.Texts.{start_of, text_at}
 use Rattle.gq_dict.specs.steps.Cut.{IsCut, text_in, texts_in}
 
 -- a text begins where the one before it ends
@@ -25,6 +26,51 @@ ordered_at bytes ends place d cut h = omega (arith, cut.ordered place h, get_or_
 
 -- what a text at a place is read by
 pub ruleset reading = (length_texts_in, text_there, ordered_at)
+
+-- ---- all texts, one behind the other
+
+-- the front of a list, and the part behind it, are a longer front
+front_and_part : (bytes : List ℕ) (start end : ℕ) → start ≤ end → take start bytes ++ slice_range bytes start end ≡ take end bytes
+front_and_part bytes zero end le = ap (λ n. take n bytes) back
+  where
+    back : end - 0 ≡ end
+    back = omega arith
+front_and_part [] (suc start) zero le = absurd (omega (arith, le))
+front_and_part [] (suc start) (suc end) le = take_all (suc end - suc start) [] (omega arith)
+front_and_part (b ∷ bytes) (suc start) zero le = absurd (omega (arith, le))
+front_and_part (b ∷ bytes) (suc start) (suc end) le =
+    let less : suc end - suc start ≡ end - start = omega arith in
+    ap (λ n. b ∷ take start bytes ++ take n (drop start bytes)) less
+    ∙ ap (λ l. b ∷ l) (front_and_part bytes start end (omega (arith, le)))
+
+-- the first texts are the bytes before the next one
+first_texts : (bytes ends : List ℕ) → IsCut bytes ends → (n : ℕ) → n ≤ length ends → concat (take n (texts_in bytes ends)) ≡ take (get_or (0 ∷ ends) n 0) bytes
+first_texts bytes ends cut zero h = refl
+first_texts bytes ends cut (suc n) h =
+    let low : n < length ends = omega (arith, h) in
+    let up : suc n ≡ n + 1 = omega arith in
+    let texts = texts_in bytes ends in
+    let one = take_more texts n [] (omega (arith, low, length_texts_in bytes ends)) in
+    ap (λ k. concat (take k texts)) up ∙ ap concat one
+    ∙ concat-append (take n texts) (text_at texts n ∷ [])
+    ∙ ap (λ t. concat (take n texts) ++ t) (append-nil (text_at texts n) ∙ text_there bytes ends n low)
+    ∙ ap (λ l. l ++ text_in bytes ends n) (first_texts bytes ends cut n (omega (arith, low)))
+    ∙ front_and_part bytes (get_or (0 ∷ ends) n 0) (get_or ends n 0) (cut.ordered n low)
+
+pub concat_texts : (bytes ends : List ℕ) → IsCut bytes ends → concat (texts_in bytes ends) ≡ bytes
+concat_texts bytes ends cut =
+    let texts = texts_in bytes ends in
+    ap concat (sym (take_all (length ends) texts (omega (arith, length_texts_in bytes ends))))
+    ∙ first_texts bytes ends cut (length ends) (omega arith) ∙ ap (λ n. take n bytes) cut.full ∙ take_all (length bytes) bytes (omega arith)
+
+-- a text does not begin behind the bytes
+start_within : (bytes ends : List ℕ) → IsCut bytes ends → (n : ℕ) → n ≤ length ends → get_or (0 ∷ ends) n 0 ≤ length bytes
+start_within bytes ends cut zero h = omega arith
+start_within bytes ends cut (suc n) h = cut.within n (omega (arith, h))
+
+pub start_there : (bytes ends : List ℕ) → IsCut bytes ends → (n : ℕ) → n ≤ length ends → get_or (0 ∷ ends) n 0 ≡ start_of (texts_in bytes ends) n
+start_there bytes ends cut n h =
+    sym (ap length (first_texts bytes ends cut n h) ∙ length-take-le (get_or (0 ∷ ends) n 0) bytes (start_within bytes ends cut n h))
 
 -- a part of a list is one of the list when it has grown
 part_kept : (bytes more : List ℕ) (start end : ℕ) → start ≤ end → end ≤ length bytes → slice_range (bytes ++ more) start end ≡ slice_range bytes start end

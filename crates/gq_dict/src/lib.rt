@@ -5,8 +5,8 @@
 ghost use Rattle.std.specs.Prelude.{◌≡◌, ◌↔◌, ℕ, List, ◌^◌, ◌<◌, ◌≤◌, ◌-◌, true, false, length};
 ghost use Rattle.std.specs.Prelude.{◌&&◌, nat_le, nat_lt, nat_eq, Contains, IfOk, IfSome, IfNone};
 ghost use Rattle.std.specs.Prelude.{count_by, map, ◌≢◌};
-ghost use Rattle.std.specs.List.{starts_with};
-ghost use Rattle.gq_dict.specs.Texts.{IsAscending, comes_before, text_at};
+ghost use Rattle.std.specs.List.{concat, starts_with};
+ghost use Rattle.gq_dict.specs.Texts.{IsAscending, comes_before, start_of, text_at};
 
 mod coding;
 mod texts;
@@ -82,6 +82,22 @@ impl Dict {
         ensures { result.now ≡ text_at self.now code }
     {
         self.texts.get(code as usize)
+    }
+
+    /// The bytes of all texts, one behind the other, in the order of their codes.
+    pub fn bytes(&self) -> &[u8]
+        ensures { result.now ≡ concat self.now }
+    {
+        self.texts.bytes()
+    }
+
+    /// Where the bytes of a code's text begin among those of all texts. That of the code behind the
+    /// last one is where they end.
+    pub fn start(&self, code: u32) -> usize
+        requires { code ≤ length self.now }
+        ensures { result ≡ start_of self.now code }
+    {
+        self.texts.start(code as usize)
     }
 
     /// How many texts come before the text.

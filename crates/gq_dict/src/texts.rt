@@ -1,7 +1,8 @@
 //! Texts that stand side by side in one block of bytes.
 ghost use Rattle.std.specs.Prelude.{◌≡◌, [], ◌∷◌, ◌++◌, ◌<◌, ◌≤◌, length, slice_index};
 ghost use Rattle.std.specs.Prelude.{IfOk, OnOk, OnErr};
-ghost use Rattle.gq_dict.specs.Texts.{text_at};
+ghost use Rattle.std.specs.List.{concat};
+ghost use Rattle.gq_dict.specs.Texts.{start_of, text_at};
 
 use gq_base::Memory;
 use std::alloc::Global;
@@ -56,6 +57,23 @@ impl Texts {
         let bytes = &self.bytes[start..self.ends[place]];
         // Each text was a `&str` when it was copied.
         unsafe { str::from_utf8_unchecked(bytes) }
+    }
+
+    /// The bytes of all texts, one behind the other.
+    #[tactic(auto, using(crate::proofs::Cut::concat_texts))]
+    pub(crate) fn bytes(&self) -> &[u8]
+        ensures { result.now ≡ concat self.now }
+    {
+        self.bytes.as_slice()
+    }
+
+    /// Where the bytes of a text begin among those of all, or end behind the last text.
+    #[tactic(auto, using(crate::proofs::Cut::length_texts_in, crate::proofs::Cut::start_there))]
+    pub(crate) fn start(&self, place: usize) -> usize
+        requires { place ≤ length self.now }
+        ensures { result ≡ start_of self.now place }
+    {
+        start_at(self.ends.as_slice(), place)
     }
 
     /// Copies a text behind the others. After `Memory` the texts are as before.

@@ -11,7 +11,7 @@ use Rattle.gq_filter.specs.LaneTests.{holds}
 use Rattle.gq_filter.specs.declared.feeds.Feed.{Feed}
 use Rattle.gq_filter.specs.declared.lane_test.LaneTest.{LaneTest}
 use Rattle.gq_filter.specs.steps.Recalling.{TellsOf, TellsTest}
-use Rattle.gq_filter.specs.steps.RowLists.{cells_at, feed_cell}
+use Rattle.gq_filter.specs.RowLists.{cells_at, feed_cell}
 use Rattle.gq_filter.specs.steps.SpanLanes.{span_cell}
 
 -- the cells of rows that follow one another are those of each row

@@ -94,7 +94,7 @@ coded kind.Flag dict (Some (cell.Flag b)) of other = refl
 coded kind.Str dict (Some c) of other = absurd (other refl)
 
 module _ (g : Graph) (y : Typed) (feed : Feed) (f : IsRelFeedIn g y feed) where
-  at_number : (o : Option ℕ) → IsInLane feed.source.kind feed.source.dict.now (property_at (rel_property g) (rel_in (Some f.rel) o) f.name) (rel_lane g feed.source.column o)
+  pub at_number : (o : Option ℕ) → IsInLane feed.source.kind feed.source.dict.now (property_at (rel_property g) (rel_in (Some f.rel) o) f.name) (rel_lane g feed.source.column o)
   at_number None = refl
   at_number (Some number) =
       let c = rel_cell g f.rel.table f.is.property number in

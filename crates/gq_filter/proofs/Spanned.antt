@@ -17,7 +17,7 @@ use Rattle.gq_filter.specs.Rows.{with_row}
 use Rattle.gq_filter.specs.declared.feeds.Feed.{Feed}
 use Rattle.gq_filter.specs.declared.lane_test.LaneTest.{LaneTest}
 use Rattle.gq_filter.specs.steps.RowCells.{DecidesRows, cell_in, cell_of, cells_of, lane_of}
-use Rattle.gq_filter.specs.steps.RowLists.{cells_at, feed_cell}
+use Rattle.gq_filter.specs.RowLists.{cells_at, feed_cell}
 use Rattle.gq_filter.specs.steps.SpanLanes.{AreSpanned, IsSpanned, span_cell}
 
 -- the row that was put in

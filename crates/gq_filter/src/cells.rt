@@ -72,8 +72,8 @@ pub(crate) fn compared(op: LaneOp, cell: Option<i64>, constant: i64) -> bool
     }
 }
 
-// Whether two cells are known and compare so.
-fn both_compared(op: LaneOp, left: Option<i64>, right: Option<i64>) -> bool
+/// Whether two cells are known and compare so.
+pub(crate) fn both_compared(op: LaneOp, left: Option<i64>, right: Option<i64>) -> bool
     ensures { result ≡ pass (compares op) left right }
 {
     match left {

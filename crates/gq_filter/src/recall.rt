@@ -4,7 +4,7 @@ ghost use Rattle.std.specs.Prelude.{slice_index};
 ghost use Rattle.gq_bits.specs.Places.{is_marked};
 ghost use Rattle.gq_filter.specs.LaneTests.{holds};
 ghost use Rattle.gq_filter.specs.steps.Recalling.{TellsTest};
-ghost use Rattle.gq_filter.specs.steps.RowLists.{cells_at};
+ghost use Rattle.gq_filter.specs.RowLists.{cells_at};
 ghost use Rattle.gq_filter.specs.steps.SpanLanes.{HaveRows};
 ghost use Rattle.gq_row_sets.specs.Rows.{next_end};
 

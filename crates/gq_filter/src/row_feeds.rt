@@ -5,69 +5,41 @@ ghost use Rattle.gq_plan.specs.Soundness.{IsSound};
 
 use crate::feeds::{Feed, node_feed, rel_feed};
 use gq_base::{Kind, Memory, Text};
-use gq_expr::{CompareOperand, Expr};
-use gq_plan::Typed;
+use gq_plan::{BoundExpr, Read, Typed, Variable};
 use gq_store::Graph;
 
-/// Adds the feeds of the properties that an expression reads where lanes can decide it.
-#[cycle(add_feeds)]
+/// Adds the feeds of the properties that an expression reads, as far as lanes take them.
 pub(crate) fn add_feeds<'g>(
     feeds: &mut Vec<Feed<'g>>,
     graph: &'g Graph,
     typed: &Typed,
-    expr: &'g Expr,
+    expr: &'g BoundExpr,
 ) -> Result<(), Memory>
     requires sound { IsSound graph.now.catalog typed.now }
     requires feeds { AreFeedsIn graph.now typed.now feeds.old.items }
     ensures { IfOk result (λ _. AreFeedsIn graph.now typed.now feeds.new.items) }
 {
-    match expr {
-        Expr::NodeProperty(variable, name) => add_node(feeds, graph, typed, *variable, name),
-        Expr::RelProperty(variable, name) => add_rel(feeds, graph, typed, *variable, name),
-        Expr::Not(inner) => add_feeds(feeds, graph, typed, inner.get()),
-        Expr::And(all) => add_all(feeds, graph, typed, all.as_slice()),
-        Expr::Or(all) => add_all(feeds, graph, typed, all.as_slice()),
-        Expr::Compare(first, terms) => {
-            add_feeds(feeds, graph, typed, first.get())?;
-            add_terms(feeds, graph, typed, terms.as_slice())
-        }
-        Expr::Test(first, _) => add_feeds(feeds, graph, typed, first.get()),
-        _ => Ok(()),
-    }
-}
-
-#[cycle(add_feeds)]
-fn add_all<'g>(
-    feeds: &mut Vec<Feed<'g>>,
-    graph: &'g Graph,
-    typed: &Typed,
-    all: &'g [Expr],
-) -> Result<(), Memory>
-    requires sound { IsSound graph.now.catalog typed.now }
-    requires feeds { AreFeedsIn graph.now typed.now feeds.old.items }
-    ensures { IfOk result (λ _. AreFeedsIn graph.now typed.now feeds.new.items) }
-{
-    for expr in all {
-        add_feeds(feeds, graph, typed, expr)?;
+    'reads: for read in expr.reads() {
+        add_feed(feeds, graph, typed, read)?;
     }
     Ok(())
 }
 
-#[cycle(add_feeds)]
-fn add_terms<'g>(
+fn add_feed<'g>(
     feeds: &mut Vec<Feed<'g>>,
     graph: &'g Graph,
     typed: &Typed,
-    terms: &'g [CompareOperand],
+    read: &'g Read,
 ) -> Result<(), Memory>
     requires sound { IsSound graph.now.catalog typed.now }
     requires feeds { AreFeedsIn graph.now typed.now feeds.old.items }
     ensures { IfOk result (λ _. AreFeedsIn graph.now typed.now feeds.new.items) }
 {
-    for term in terms {
-        add_feeds(feeds, graph, typed, &term.expr)?;
+    match (read.variable, &read.property) {
+        (_, None) => Ok(()),
+        (Variable::Node(node), Some(name)) => add_node(feeds, graph, typed, node, name),
+        (Variable::Rel(rel), Some(name)) => add_rel(feeds, graph, typed, rel, name),
     }
-    Ok(())
 }
 
 // Adds the feed of a property of a node variable, where its table has the property.

@@ -4,7 +4,7 @@ ghost use Rattle.std.specs.List.{list_all};
 ghost use Rattle.gq_bits.specs.Places.{is_marked};
 ghost use Rattle.gq_column.specs.Cells.{cell_at};
 ghost use Rattle.gq_filter.specs.LaneTests.{holds, passes};
-ghost use Rattle.gq_filter.specs.steps.RowLists.{cells_at};
+ghost use Rattle.gq_filter.specs.RowLists.{cells_at};
 ghost use Rattle.gq_lanes.specs.Tests.{compares};
 
 use crate::cells::{Cells, compared, holds_at};
@@ -16,15 +16,15 @@ use gq_bits::{Marks, VECTOR};
 use gq_column::Column;
 use gq_lanes::LaneOp;
 
-/// The lanes of a node variable's properties at one of its rows.
+/// The cells that lanes have at one row, or place, of their columns.
 #[derive(Clone, Copy)]
-struct NodeCells<'r> {
-    feeds: &'r [Feed<'r>],
-    row: u32,
+pub(crate) struct ColumnCells<'r> {
+    pub(crate) feeds: &'r [Feed<'r>],
+    pub(crate) row: u32,
 }
 
-impl Cells for NodeCells<'_> {
-    ghost use Rattle.gq_filter.specs.steps.RowLists.{cells_at};
+impl Cells for ColumnCells<'_> {
+    ghost use Rattle.gq_filter.specs.RowLists.{cells_at};
 
     ghost cell = { λ c lane. cells_at c.feeds.now c.row lane };
 
@@ -67,9 +67,15 @@ fn keep_all(tests: &[LaneTest], feeds: &[Feed<'_>], rows: &[u32], marks: &mut Ma
     }
 }
 
-// Keeps the places whose cell is known and compares so with the constant. Queries mostly ask just
-// this of a node's neighbours, and there are many of them, so that the loop does nothing else.
-fn keep_compared(column: &Column, op: LaneOp, constant: i64, rows: &[u32], marks: &mut Marks)
+/// Keeps the places whose cell is known and compares so with the constant. Queries mostly ask just
+/// this of a node's neighbours, and there are many of them, so that the loop does nothing else.
+pub(crate) fn keep_compared(
+    column: &Column,
+    op: LaneOp,
+    constant: i64,
+    rows: &[u32],
+    marks: &mut Marks,
+)
     requires few { length rows.now ≤ VECTOR }
     requires within { (k : ℕ) → length rows.now ≤ k → is_marked marks.old k ≡ false }
     ensures { (k : ℕ) → is_marked marks.new k ≡ (is_marked marks.old k
@@ -96,7 +102,7 @@ fn keep_each(test: &LaneTest, feeds: &[Feed<'_>], rows: &[u32], marks: &mut Mark
         if !marks.get(place as u32) {
             continue;
         }
-        let cells = NodeCells {
+        let cells = ColumnCells {
             feeds: &*feeds,
             row: rows[place],
         };

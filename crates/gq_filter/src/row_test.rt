@@ -4,30 +4,32 @@ ghost use Rattle.std.specs.Prelude.{◌≡◌, ◌≤◌, ◌<◌, ◌-◌, ◌&
 ghost use Rattle.std.specs.Prelude.{true};
 ghost use Rattle.gq_bits.specs.Places.{is_marked};
 ghost use Rattle.gq_filter.specs.Equal.{HaveOne};
+ghost use Rattle.gq_filter.specs.Placed.{IsPlacedTest};
 ghost use Rattle.gq_filter.specs.RowTests.{condition_over, conditions_of, is_true_of, ReadsRows};
 ghost use Rattle.gq_filter.specs.Rows.{count_in, row_in, with_row};
-ghost use Rattle.gq_filter.specs.steps.Evaluating.{Evaluates, is_true};
-ghost use Rattle.gq_filter.specs.steps.RowCells.{AreFeedsIn, AreOfNodes, DecidesRows};
+ghost use Rattle.gq_filter.specs.steps.RowCells.{AreOfNodes};
 ghost use Rattle.gq_filter.specs.steps.SpanLanes.{AreSpanned, IsSpanned};
 ghost use Rattle.gq_plan.specs.Soundness.{IsSound};
 ghost use Rattle.gq_plan.specs.declared.assignment.Assignment.{Assignment};
 
 use crate::cells::holds_at;
-use crate::conditions::compile;
+use crate::deciders::{evaluator_of, is_true, test_of};
 use crate::equalities::{EqualColumns, equal_columns};
 use crate::feeds::Feed;
 use crate::kernels::keep_lanes;
 use crate::lane_test::LaneTest;
+use crate::placed::{PlacedTest, placed_test};
 use crate::recall::Recall;
 use crate::row_cells::RowCells;
 use crate::row_feeds::add_feeds;
 use crate::rows::Rows;
 use crate::span_lanes::SpanLanes;
+use crate::standing::keep_standing;
+use crate::standing_row::StandingRow;
 use crate::text_test::{CodeSet, PartTest, code_count, text_test};
-use gq_base::{Memory, Value};
+use gq_base::Memory;
 use gq_bits::{Marks, VECTOR};
 use gq_eval::Evaluator;
-use gq_expr::Assigned;
 use gq_plan::{Assignment, NamedExpr, Typed, TypedRow, Variable};
 use gq_store::Graph;
 use std::alloc::Global;
@@ -58,7 +60,7 @@ impl<'g> Model for RowTest<'g> {
     ghost use Rattle.gq_filter.specs.RowTests.{RowCondition};
     ghost use Rattle.gq_filter.specs.steps.Evaluating.{Evaluates};
     ghost use Rattle.gq_filter.specs.steps.Recalling.{TellsOf};
-    ghost use Rattle.gq_filter.specs.steps.RowCells.{AreInside, DecidesRows};
+    ghost use Rattle.gq_filter.specs.steps.RowCells.{AreFeedsIn, DecidesRows};
     ghost use Rattle.gq_filter.specs.steps.Texts.{AreKnown, TextDecides};
 
     ghost Value = { RowCondition };
@@ -71,7 +73,7 @@ impl<'g> Model for RowTest<'g> {
       condition = t.condition.now;
     } };
 
-    ghost invariant = { λ t. AreInside t.graph.now t.feeds.items
+    ghost invariant = { λ t. AreFeedsIn t.graph.now t.typed.now t.feeds.items
         × DecidesRows t.graph.now t.typed.now t.condition.now t.feeds.items t.test
         × TextDecides t.graph.now t.typed.now t.condition.now t.text
         × Evaluates t.graph.now t.condition.now t.test t.text t.evaluator
@@ -181,6 +183,17 @@ impl<'g> RowTest<'g> {
         }
     }
 
+    /// What tells of a place that the condition is not true of the relationship there, if lanes of
+    /// that relationship's variable alone decide it.
+    pub fn placed(&self, rel: u32) -> Option<PlacedTest<'_>>
+        ensures { IfSome result (IsPlacedTest self.now rel) }
+    {
+        match &self.test {
+            None => None,
+            Some(test) => placed_test(test, self.feeds.as_slice(), rel),
+        }
+    }
+
     /// Whether the condition is true of rows and load numbers. It takes no memory.
     pub fn passes(&self, row: &Assignment) -> bool
         ensures { result ≡ is_true_of self.now row.now }
@@ -234,11 +247,17 @@ impl RowTest<'_> {
                 None => self.keep_ahead(variable, rows, row, marks),
                 Some(test) => {
                     let feeds = self.feeds.as_slice();
-                    // Where all lanes are of this variable, no row has to be put in.
+                    // Where all lanes are of this variable, no other cell has to be read.
                     if are_spanned(feeds, variable, 0) {
                         self.recall.keep(test, feeds, list, marks);
                     } else {
-                        self.keep_each(variable, rows, row, marks);
+                        let held = StandingRow {
+                            graph: self.graph,
+                            feeds,
+                            row: &*row,
+                            variable,
+                        };
+                        keep_standing(test, &held, list, marks);
                     }
                 }
             },
@@ -313,16 +332,6 @@ impl RowTest<'_> {
     }
 }
 
-// Whether a condition over a graph is true of a row. It takes no memory.
-fn is_true<R: Assigned>(test: &Evaluator<'_>, row: &R) -> bool
-    ensures { result ≡ is_true test.now (R.assignment row.now) }
-{
-    match test.value(row) {
-        Ok(Value::Flag(truth)) => truth,
-        _ => false,
-    }
-}
-
 // Whether each feed is of a node variable, and its column has the rows below `high`.
 fn are_spanned(feeds: &[Feed<'_>], variable: u32, high: u32) -> bool
     ensures { IsTrue result → AreSpanned variable high feeds.now }
@@ -342,50 +351,6 @@ fn is_spanned(feed: &Feed<'_>, variable: u32, high: u32) -> bool
         Variable::Node(node) => node == variable && high <= feed.column.len(),
         Variable::Rel(_) => false,
     }
-}
-
-// The test of lanes with these feeds that decides a condition, where they can.
-fn test_of(
-    alloc: Global,
-    graph: &Graph,
-    typed: &Typed,
-    condition: &NamedExpr,
-    feeds: &[Feed<'_>],
-) -> Result<Option<LaneTest>, Memory>
-    requires { AreFeedsIn graph.now typed.now feeds.now }
-    ensures { IfOk result (DecidesRows graph.now typed.now condition.now feeds.now) }
-{
-    if feeds.len() > u32::MAX as usize {
-        return Ok(None);
-    }
-    let mut sources = Vec::with_capacity(alloc, feeds.len())?;
-    for feed in feeds {
-        sources.push(feed.source)?;
-    }
-    let test = compile(alloc, &condition.expr, sources.as_slice())?;
-    Ok(test)
-}
-
-// What evaluates a condition, where neither lanes nor a text decide it.
-fn evaluator_of<'g>(
-    alloc: Global,
-    graph: &'g Graph,
-    condition: &'g NamedExpr,
-    test: &Option<LaneTest>,
-    text: &Option<PartTest<'g>>,
-) -> Result<Option<Evaluator<'g>>, Memory>
-    ensures { IfOk result (Evaluates graph.now condition.now test.now text.now) }
-{
-    match test {
-        Some(_) => return Ok(None),
-        None => {}
-    }
-    match text {
-        Some(_) => return Ok(None),
-        None => {}
-    }
-    let evaluator = Evaluator::new(alloc, &condition.expr, graph)?;
-    Ok(Some(evaluator))
 }
 
 // Whether each feed is of a node variable.

@@ -14,6 +14,7 @@ ghost use Rattle.gq_row_sets.specs.Rows.{nothing_told};
 
 use crate::conditions::text_of;
 use crate::feeds::node_feed;
+use crate::found::found_marks;
 use crate::row_cells::cell_at;
 use crate::rows::Rows;
 use gq_base::{Kind, Memory, Text, TextTest};
@@ -109,8 +110,27 @@ fn try_codes(known: &mut RowSet, test: &PartTest<'_>)
     let _ = known.tell(marks);
 }
 
-// Which of the texts from one code on have a part.
+// Which of the texts from one code on have a part. One that stands anywhere is searched for in all of
+// them at once.
 fn marks_of(part: &Part<'_>, dict: &Dict, low: u32, high: u32) -> Marks
+    requires ordered { low ≤ high }
+    requires few { high - low ≤ VECTOR }
+    requires inside { high ≤ length dict.now }
+    ensures { (k : ℕ) → k < high - low
+        → is_marked result k ≡ is_in part.now (text_at dict.now (low + k)) }
+{
+    match part {
+        Part::End(_) => tried_marks(part, dict, low, high),
+        Part::Inner(inner) => if inner.needle().is_empty() {
+            tried_marks(part, dict, low, high)
+        } else {
+            found_marks(dict, inner, low, high)
+        },
+    }
+}
+
+// The same, text by text.
+fn tried_marks(part: &Part<'_>, dict: &Dict, low: u32, high: u32) -> Marks
     requires ordered { low ≤ high }
     requires few { high - low ≤ VECTOR }
     requires inside { high ≤ length dict.now }
@@ -269,7 +289,8 @@ pub(crate) fn text_test<'g>(
     requires { IsSound graph.now.catalog typed.now }
     ensures { TextDecides graph.now typed.now condition.now result }
 {
-    match &condition.expr {
+    let asked = condition.expr.get();
+    match asked {
         Expr::Test(first, testers) => match first.get() {
             Expr::NodeProperty(variable, name) => {
                 let part = part_of(testers.as_slice())?;

@@ -4,7 +4,7 @@ use Rattle.gq_bits.specs.Places.{is_marked}
 use Rattle.gq_filter.specs.LaneTests.{holds}
 use Rattle.gq_filter.specs.declared.feeds.Feed.{Feed}
 use Rattle.gq_filter.specs.declared.lane_test.LaneTest.{LaneTest}
-use Rattle.gq_filter.specs.steps.RowLists.{cells_at}
+use Rattle.gq_filter.specs.RowLists.{cells_at}
 
 -- of the first rows it is told at which of them a test holds
 abbrev pub TellsTest : List Feed → LaneTest → List Bool → Type 0

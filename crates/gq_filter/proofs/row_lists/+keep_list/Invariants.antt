@@ -1,7 +1,7 @@
 use Rattle.std.proofs.Common.{drop, length}
 use Rattle.std.specs.Prelude.{slice_index}
 use Rattle.gq_filter.specs.steps.Kernels.{AreKept}
-use Rattle.gq_filter.specs.steps.RowLists.{cells_at}
+use Rattle.gq_filter.specs.RowLists.{cells_at}
 use Rattle.gq_filter.proofs.row_lists.+keep_list.Given as goal
 
 abbrev pub invariant-keep_all-loop-test : goal.invariant-keep_all-loop-test

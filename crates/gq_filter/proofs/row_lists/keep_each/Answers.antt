@@ -1,6 +1,6 @@
 use Rattle.std.proofs.Common.{◌∙◌, ◌+◌, ℕ, Bool, sym, subst, arith, slice_index}
 use Rattle.gq_filter.specs.LaneTests.{holds}
-use Rattle.gq_filter.specs.steps.RowLists.{cells_at}
+use Rattle.gq_filter.specs.RowLists.{cells_at}
 use Rattle.gq_filter.proofs.Trying.{IsTried, tried_dropped, tried_kept}
 use Rattle.gq_filter.proofs.row_lists.keep_each.Goals as goal
 use Rattle.gq_filter.proofs.row_lists.keep_each.Goals.{then-not-holds_at, else-not-holds_at}

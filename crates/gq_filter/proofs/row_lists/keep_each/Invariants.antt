@@ -1,6 +1,6 @@
 use Rattle.std.specs.Prelude.{slice_index}
 use Rattle.gq_filter.specs.LaneTests.{holds}
-use Rattle.gq_filter.specs.steps.RowLists.{cells_at}
+use Rattle.gq_filter.specs.RowLists.{cells_at}
 use Rattle.gq_filter.proofs.Trying.{IsTried}
 use Rattle.gq_filter.proofs.row_lists.keep_each.Given as goal
 

@@ -2,12 +2,11 @@ use Rattle.std.proofs.Common.{subst}
 use Rattle.gq_filter.proofs.Codes.{known_none, no_codes}
 use Rattle.gq_filter.specs.steps.RowCells.{DecidesRows}
 use Rattle.gq_filter.proofs.Recalled.{tells_none}
-use Rattle.gq_filter.proofs.RowLanes.{all_inside}
 use Rattle.gq_filter.proofs.row_test.RowTest.new.Goals as goal
 
 pub invariant_of-result : goal.invariant_of-result
 invariant_of-result c = (
-  all_inside c.args.graph.now c.args.typed.now c.add_feeds.new.feeds.items c.in_ok-add_feeds.ensures,
+  c.in_ok-add_feeds.ensures,
   subst (λ feeds. DecidesRows c.args.graph.now c.args.typed.now c.args.condition.now feeds c.in_ok-test.test) c.as_slice.ensures.value c.in_ok-test.ensures,
   c.text_test-text.ensures,
   c.in_ok-evaluator.ensures,

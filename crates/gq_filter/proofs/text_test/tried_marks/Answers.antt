@@ -1,7 +1,7 @@
 use Rattle.std.proofs.Common.{◌∙◌, ap, arith}
 use Rattle.gq_filter.proofs.Codes.{tried_more}
 use Rattle.gq_filter.specs.steps.Texts.{is_in}
-use Rattle.gq_filter.proofs.text_test.marks_of.Goals as goal
+use Rattle.gq_filter.proofs.text_test.tried_marks.Goals as goal
 
 pub loop-place-init : goal.loop-place-init
 loop-place-init c = record { whole = c.first-marks.ensures.whole; done = λ k lt. absurd (omega (arith, lt)) }

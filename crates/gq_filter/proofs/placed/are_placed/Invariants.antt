@@ -1,0 +1,8 @@
+use Rattle.std.proofs.Common.{◌≡◌, ◌<◌, ℕ, Some}
+use Rattle.std.specs.Prelude.{slice_get}
+use Rattle.gq_filter.specs.declared.feeds.Feed.{Feed}
+use Rattle.gq_filter.specs.steps.Placing.{IsPlaced}
+use Rattle.gq_filter.proofs.placed.are_placed.Given as goal
+
+abbrev pub invariant-loop-feed : goal.invariant-loop-feed
+invariant-loop-feed l = (lane : ℕ) (feed : Feed) → lane < l.feed-index → slice_get l.feeds lane ≡ Some feed → IsPlaced l.rel l.places feed

@@ -1,0 +1,77 @@
+//! Conditions on a relationship, decided by the place at which it stands.
+ghost use Rattle.std.specs.Prelude.{◌≡◌, IfSome, IsTrue, false};
+ghost use Rattle.gq_filter.specs.Placed.{Refuses};
+ghost use Rattle.gq_filter.specs.steps.Placing.{ArePlaced, IsPlaced, IsTestOf};
+
+use crate::cells::holds_at;
+use crate::feeds::Feed;
+use crate::lane_test::LaneTest;
+use crate::row_lists::ColumnCells;
+use gq_plan::Variable;
+
+/// A test of lanes of one relationship variable. Its cells stand by place, so that it is asked
+/// without the load number there.
+#[derive(Clone, Copy)]
+pub struct PlacedTest<'r> {
+    pub(crate) test: &'r LaneTest,
+    pub(crate) feeds: &'r [Feed<'r>],
+    // So many places have cells.
+    pub(crate) places: u32,
+}
+
+impl PlacedTest<'_> {
+    /// Whether the relationship at a place may pass; if not, it is refused.
+    pub fn may_pass(&self, place: u32) -> bool
+        ensures { result ≡ false → Refuses self.now place }
+    {
+        if place >= self.places {
+            return true;
+        }
+        let cells = ColumnCells {
+            feeds: self.feeds,
+            row: place,
+        };
+        holds_at(self.test, &cells)
+    }
+}
+
+/// A test of lanes, if all lanes are of one relationship variable.
+pub(crate) fn placed_test<'r>(
+    test: &'r LaneTest,
+    feeds: &'r [Feed<'r>],
+    rel: u32,
+) -> Option<PlacedTest<'r>>
+    ensures { IfSome result (IsTestOf test.now feeds.now rel) }
+{
+    let first = feeds.first()?;
+    let places = first.column.len();
+    if !are_placed(feeds, rel, places) {
+        return None;
+    }
+    Some(PlacedTest {
+        test,
+        feeds,
+        places,
+    })
+}
+
+// Whether each feed is of a relationship variable, and its column has so many places.
+fn are_placed(feeds: &[Feed<'_>], rel: u32, places: u32) -> bool
+    ensures { IsTrue result → ArePlaced rel places feeds.now }
+{
+    for feed in feeds {
+        if !is_placed(feed, rel, places) {
+            return false;
+        }
+    }
+    true
+}
+
+fn is_placed(feed: &Feed<'_>, rel: u32, places: u32) -> bool
+    ensures { IsTrue result → IsPlaced rel places feed.now }
+{
+    match feed.source.variable {
+        Variable::Node(_) => false,
+        Variable::Rel(own) => own == rel && places <= feed.column.len(),
+    }
+}
