@@ -1,5 +1,5 @@
 -- One answer more: about a place of a piece, a row of a table, a node.
-use Rattle.std.proofs.Common.{◌≡◌, ◌≢◌, ◌⊎◌, inl, inr, ◌∙◌, ◌<◌, ◌/◌, ◌%◌, ℕ, zero, suc, Bool, Option, Some, None, List, [], ◌∷◌, ◌++◌, length, set, refl, sym, ap, ap₂, subst, arith}
+use Rattle.std.proofs.Common.{◌≡◌, ◌≢◌, ◌⊎◌, inl, inr, ◌∙◌, ◌<◌, ◌/◌, ◌%◌, ℕ, zero, suc, Bool, Some, None, List, [], ◌∷◌, ◌++◌, length, set, refl, sym, ap, ap₂, subst, arith}
 use Rattle.std.specs.Prelude.{IfSome, slice_get}
 use Rattle.std.proofs.lemmas.Bool.{cases_eq}
 use Rattle.gq_base.specs.Plain.{Graph}

@@ -1,5 +1,6 @@
 mod Adding
 mod Answering
 mod Asking
+mod Missing
 mod Spanning
 mod Testing

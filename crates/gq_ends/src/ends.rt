@@ -3,7 +3,7 @@ ghost use Rattle.std.specs.Prelude.{◌≡◌, ◌<◌, IfOk, IfSome, length, tr
 ghost use Rattle.gq_ends.specs.Ends.{AreEnds};
 ghost use Rattle.gq_ends.specs.steps.Adding.{HasTable};
 
-use crate::end_test::tests_in;
+use crate::end_test::{none_fits, tests_in};
 use crate::labels::has_labels;
 use crate::rows::add_rows;
 use gq_base::{Memory, NodeId};
@@ -12,8 +12,8 @@ use gq_store::Graph;
 use std::alloc::Global;
 
 /// Nodes among which are all that have the labels and pass the tests of a trail's other end: those
-/// of the tables with the labels that pass the tests which columns decide. There are none where these
-/// are more than 8,192.
+/// of the tables with the labels and with the properties that are compared, which pass the tests that
+/// columns decide. There are none where these are more than 8,192.
 pub fn end_nodes(
     alloc: Global,
     graph: &Graph,
@@ -45,6 +45,9 @@ fn add_labelled(
         HasTable graph.now part.now table ends.old.items ends.new.items) }
 {
     if !has_labels(graph, part.labels.as_slice(), table) {
+        return Ok(true);
+    }
+    if none_fits(graph, part, table) {
         return Ok(true);
     }
     add_tested(alloc, graph, part, table, ends)

@@ -14,3 +14,6 @@ returns-then-not-has_labels c told =
     let p = c.args.part.now in
     table_passed g p c.args.table c.args.ends.now.items
     (λ row fits. true≢false (sym (and_parts (list_all (has_label (slice_get g.catalog.nodes c.args.table)) p.labels) _ fits).0 ∙ ap (list_all (has_label (slice_get g.catalog.nodes c.args.table))) (sym c.as_slice.ensures) ∙ sym c.has_labels.ensures ∙ c.if-not-has_labels.true))
+
+pub returns-then-none_fits : goal.returns-then-none_fits
+returns-then-none_fits c told = table_passed c.args.graph.now c.args.part.now c.args.table c.args.ends.now.items (c.none_fits.ensures c.if-none_fits.true)

@@ -1,4 +1,4 @@
-use Rattle.std.proofs.Common.{◌≡◌, ◌∷◌, ◌++◌, [], ℕ, None, List, sym, subst}
+use Rattle.std.proofs.Common.{◌≡◌, ℕ, None, List, sym, subst}
 use Rattle.std.specs.Prelude.{slice_get}
 use Rattle.gq_ends.specs.declared.answers.TableAnswers.{TableAnswers}
 use Rattle.gq_ends.specs.steps.Answers.{in_table}
