@@ -65,11 +65,11 @@ module _ (g : Graph) (y : Typed) (rows : ℕ → List Partial) where
   all-none F P h (x ∷ xs) z = ap (λ l. l ++ flat_map F xs) (h x z.0) ∙ all-none F P h xs z.1
 
   -- where a group makes nothing, all groups together make nothing
-  ends-none : (flat : ℕ → Bool) (i : ℕ) (gs : List Group) (k all : Known) (a e : Partial) → Ends i gs k a → Within k all → AreGroups g y rows i gs → AreFlatEnough g.catalog y flat i gs all → AreAlike k a e → results g y rows i gs e ≡ []
-  ends-none flat i [] k all a e n w are enough h = absurd n
-  ends-none flat i (b ∷ gs) k all a e (inl n) w are enough h = all-none (results g y rows (i + 1) gs) (λ d. results g y rows (i + 1) gs d ≡ []) (λ d m. m) (flat_map (kept g y b) (raw g y (rows i) b.binds e)) (n e h)
-  ends-none flat i (b ∷ gs) k all a e (inr n) w are enough h =
-      all-none (results g y rows (i + 1) gs) (AreAlike k a) (λ f m. ends-none flat (i + 1) gs k (known_with (flat i) b all) a f n (within-group (flat i) b k all w) are.2 enough.2 m)
+  pub ends_none : (flat : ℕ → Bool) (i : ℕ) (gs : List Group) (k all : Known) (a e : Partial) → Ends i gs k a → Within k all → AreGroups g y rows i gs → AreFlatEnough g.catalog y flat i gs all → AreAlike k a e → results g y rows i gs e ≡ []
+  ends_none flat i [] k all a e n w are enough h = absurd n
+  ends_none flat i (b ∷ gs) k all a e (inl n) w are enough h = all-none (results g y rows (i + 1) gs) (λ d. results g y rows (i + 1) gs d ≡ []) (λ d m. m) (flat_map (kept g y b) (raw g y (rows i) b.binds e)) (n e h)
+  ends_none flat i (b ∷ gs) k all a e (inr n) w are enough h =
+      all-none (results g y rows (i + 1) gs) (AreAlike k a) (λ f m. ends_none flat (i + 1) gs k (known_with (flat i) b all) a f n (within-group (flat i) b k all w) are.2 enough.2 m)
       (flat_map (kept g y b) (raw g y (rows i) b.binds e))
       (kept-as i b k all a e w enough.1 h (raw g y (rows i) b.binds e) (raw_keeps g y (rows i) b.binds all e are.0 enough.0))
 
@@ -85,7 +85,7 @@ module _ (g : Graph) (y : Typed) (rows : ℕ → List Partial) where
   nothing_behind flat l b gs pre i k a t are enough j low keeps is_flat ends =
       walks_are_choices g y rows l gs (pre ++ number_of (l.flat pre) j ∷ []) (i + 1) (place g y (rows i) b a j) (follows.2 j low keeps)
       ∙ no-choices gs (i + 1) (place g y (rows i) b a j) are.2
-      (ends-none flat (i + 1) gs (after_step b.binds k) (known_with (flat i) b k) (raw_at g y (rows i) b a j) (place g y (rows i) b a j) ends (known-flat (flat i) is_flat) are.2 enough.2 place-as)
+      (ends_none flat (i + 1) gs (after_step b.binds k) (known_with (flat i) b k) (raw_at g y (rows i) b a j) (place g y (rows i) b a j) ends (known-flat (flat i) is_flat) are.2 enough.2 place-as)
     where
       follows : Follows g y rows l pre i (b ∷ gs) a
       follows = tail_follows g y rows flat l (b ∷ gs) pre i k a a t are enough (alike_self k a)

@@ -21,8 +21,9 @@ use Rattle.gq_law_groups.specs.Layout.{ArePlaced}
 use Rattle.gq_law_groups.proofs.Alike.{AreAlike, step_keeps}
 use Rattle.gq_law_groups.proofs.Closing.{Marks}
 use Rattle.gq_law_groups.proofs.Ending.{AllEnd, EndsAt}
-use Rattle.gq_law_groups.proofs.Following.{known_node}
+use Rattle.gq_law_groups.proofs.Following.{known_node, kept_keeps}
 use Rattle.gq_law_masks.specs.Alone.{Asks, Refuses}
+use Rattle.gq_law_masks.specs.Nothing.{LeavesNothing, MakeNothing}
 
 -- ---- lists
 
@@ -109,12 +110,21 @@ module _ (g : Graph) (y : Typed) (test v : ℕ) (n : NodeId) (off : Refuses g y 
       each (d ∷ ds) all f = (f d all.0, each ds all.1 f)
 
 -- a group leaves nothing of a place whose node one of its tests refuses
-pub refused_end : (g : Graph) (y : Typed) (rows : ℕ → List Partial) (i : ℕ) (b : Group) (gs : List Group) (k : Known) (test v : ℕ) (n : NodeId) (e : Partial)
+pub refused_end : (g : Graph) (y : Typed) (rows : ℕ → List Partial) (i : ℕ) (b : Group) (gs : List Group) (k : Known) (test v : ℕ) (n : NodeId)
     → ArePlaced g.catalog y b.checks (after_step b.binds k) → (after_step b.binds k).nodes v ≡ true
-    → Asks test b.checks → Refuses g y test v n → look e.nodes v ≡ Some n
-    → AllEnd g y rows (i + 1) gs (kept g y b e)
-refused_end g y rows i b gs k test v n e placed known asks off there = subst (AllEnd g y rows (i + 1) gs) (sym (go (own g y b.binds e))) tt
+    → Asks test b.checks → Refuses g y test v n → LeavesNothing g y rows i b gs v n
+refused_end g y rows i b gs k test v n placed known asks off = λ e there. subst (AllEnd g y rows (i + 1) gs) (sym (go e there (own g y b.binds e))) tt
   where
-    go : (c : Bool) → cond c (follow g y b.checks e) [] ≡ []
-    go true = follow-none g y test v n off b.checks (after_step b.binds k) e placed known asks there
-    go false = refl
+    go : (e : Partial) → look e.nodes v ≡ Some n → (c : Bool) → cond c (follow g y b.checks e) [] ≡ []
+    go e there true = follow-none g y test v n off b.checks (after_step b.binds k) e placed known asks there
+    go e there false = refl
+
+-- nor of one whose node the groups behind it make nothing of
+pub behind_end : (g : Graph) (y : Typed) (rows : ℕ → List Partial) (i : ℕ) (b : Group) (gs : List Group) (k : Known) (v : ℕ) (n : NodeId)
+    → ArePlaced g.catalog y b.checks (after_step b.binds k) → (after_step b.binds k).nodes v ≡ true
+    → MakeNothing g y rows (i + 1) gs v n → LeavesNothing g y rows i b gs v n
+behind_end g y rows i b gs k v n placed known none = λ e there. each e there (kept g y b e) (kept_keeps g y (rows i) b k e placed)
+  where
+    each : (e : Partial) → look e.nodes v ≡ Some n → (ds : List Partial) → AllByRecursion (AreAlike (after_step b.binds k) e) ds → AllEnd g y rows (i + 1) gs ds
+    each e there [] all = tt
+    each e there (d ∷ ds) all = (none d (sym (all.0.nodes v known) ∙ there), each e there ds all.1)

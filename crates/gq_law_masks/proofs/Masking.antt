@@ -5,6 +5,7 @@ use Rattle.std.specs.List.{AllByRecursion, range_with_len}
 use Rattle.std.proofs.lemmas.Bool.{eq-eqb, eqb-true}
 use Rattle.std.proofs.lemmas.Option.{get_or_from_slice_get}
 use Rattle.gq_adj.specs.Adjacent.{targets}
+use Rattle.gq_base.specs.Directions.{opposite}
 use Rattle.gq_base.specs.Plain.{Graph, rels_at}
 use Rattle.gq_base.specs.Valid.{is_valid}
 use Rattle.gq_base.specs.declared.NodeId.{NodeId}
@@ -22,14 +23,15 @@ use Rattle.gq_plan.specs.Rows.{node_table}
 use Rattle.gq_plan.specs.declared.typed.Typed.{Typed}
 use Rattle.gq_plan.specs.declared.typed.TypedRel.{TypedRel}
 use Rattle.gq_store.proofs.Validity.{ends_below, length-ends}
-use Rattle.gq_store.specs.Neighbours.{near_end, near_ends, near_rows, neighbours, opposite}
+use Rattle.gq_store.specs.Neighbours.{near_end, near_ends, near_rows, neighbours}
 use Rattle.gq_law_groups.specs.Groups.{Group, kept}
 use Rattle.gq_law_groups.specs.Layout.{ArePlaced}
 use Rattle.gq_law_groups.proofs.Closing.{Marks}
-use Rattle.gq_law_groups.proofs.Ending.{AllEnd, EndsAt}
-use Rattle.gq_law_masks.specs.Alone.{Asks, Refuses, passes_alone, reads_alone}
+use Rattle.gq_law_groups.proofs.Ending.{EndsAt}
+use Rattle.gq_law_masks.specs.Alone.{Asks, passes_alone, reads_alone}
+use Rattle.gq_law_masks.specs.Nothing.{LeavesNothing, MakeNothing}
 use Rattle.gq_law_masks.proofs.Alone.{alone_refuses}
-use Rattle.gq_law_masks.proofs.Leading.{lists_end, refused_end}
+use Rattle.gq_law_masks.proofs.Leading.{behind_end, lists_end, refused_end}
 
 -- what all targets of a pair's vertex are, its item is
 all_target : (P : ℕ → Bool) (fs ts : List ℕ) (i : ℕ) → i < length fs → length fs ≡ length ts → All (λ n. P n ≡ true) (targets (get_or fs i 0) fs ts) → P (get_or ts i 0) ≡ true
@@ -118,32 +120,47 @@ module _ (g : Graph) (y : Typed) (x : ℕ) (r : TypedRel) (t : RelTable) (is : s
       let p = get-some (rels_at g r.table) i inside in
       one i p.0 inside p.1)))
 
--- a group that follows a list from a row that is not marked to nodes of which a test refuses those that are not chosen makes nothing
-pub masked_end : (g : Graph) (y : Typed) (rows : ℕ → List Partial) (i : ℕ) (b : Group) (gs : List Group) (k : Known) (a : Partial) (x from to : ℕ) (way : Direction) (r : TypedRel) (t : RelTable) (n : NodeId) (marked : ℕ → Bool) (told test : ℕ) (placed : Known)
+-- a row of a variable's table
+abbrev pub row_of : Typed → ℕ → ℕ → NodeId
+row_of y v q = record { table = node_table y v; row = q }
+
+-- a group that follows a list from a row that is not marked, of whose chosen rows all near ones are marked, makes nothing where it leaves
+-- nothing of those that are not chosen
+pub masked_end : (g : Graph) (y : Typed) (rows : ℕ → List Partial) (i : ℕ) (b : Group) (gs : List Group) (k : Known) (a : Partial) (x from to : ℕ) (way : Direction) (r : TypedRel) (t : RelTable) (n : NodeId) (chosen marked : ℕ → Bool) (told : ℕ)
     → slice_get y.rels x ≡ Some r → slice_get g.catalog.rels r.table ≡ Some t → is_valid g ≡ true → r.table < length g.catalog.rels → slice_get y.nodes to ≡ Some (far_table way t)
     → near_rows g r.table (opposite way) ≤ told
-    → ((q : ℕ) → q < told → passes_alone g y to test q ≡ true → All (λ row. marked row ≡ true) (neighbours g r.table (opposite way) q))
-    → b.binds ≡ Extend false x from to way → Asks test b.checks → reads_alone y to test ≡ true
-    → ArePlaced g.catalog y b.checks (after_step b.binds placed)
+    → ((q : ℕ) → q < told → chosen q ≡ true → All (λ row. marked row ≡ true) (neighbours g r.table (opposite way) q))
+    → b.binds ≡ Extend false x from to way
+    → ((q : ℕ) → chosen q ≡ false → LeavesNothing g y rows i b gs to (row_of y to q))
     → k.nodes from ≡ true → look a.nodes from ≡ Some n → marked n.row ≡ false → EndsAt g y rows i b gs k a
-unfolding after_step
-masked_end g y rows i b gs k a x from to way r t n marked told test placed is table_is valid within far_is whole are binds asks alone places known here off =
-    lists_end g y rows (selected (passes_alone g y to test) (far_table way t)) (λ m. marked m.row) i b gs k a x from to way n binds
-    (marks g y x r t is table_is valid within way (passes_alone g y to test) marked told whole are) known here off
-    (λ e m there off_m. refused_end g y rows i b gs placed test to m e places known_to asks (refuses m off_m) there)
+masked_end g y rows i b gs k a x from to way r t n chosen marked told is table_is valid within far_is whole are binds none known here off =
+    lists_end g y rows (selected chosen (far_table way t)) (λ m. marked m.row) i b gs k a x from to way n binds
+    (marks g y x r t is table_is valid within way chosen marked told whole are) known here off
+    (λ e m there off_m. leaves m off_m e there)
   where
-    known_to : (after_step b.binds placed).nodes to ≡ true
-    known_to = ap (λ s. (after_step s placed).nodes to) binds ∙ ap (λ c. c || placed.nodes to) (eq-eqb to to refl)
-
     table : node_table y to ≡ far_table way t
     table = get_or_from_slice_get y.nodes to (far_table way t) 0 far_is
 
-    refuses : (m : NodeId) → selected (passes_alone g y to test) (far_table way t) m ≡ false → Refuses g y test to m
-    refuses m off_m = go (nat_eq m.table (far_table way t)) refl off_m
+    leaves : (m : NodeId) → selected chosen (far_table way t) m ≡ false → LeavesNothing g y rows i b gs to m
+    leaves m off_m = go (nat_eq m.table (far_table way t)) refl off_m
       where
-        go : (c : Bool) → nat_eq m.table (far_table way t) ≡ c → (not c || passes_alone g y to test m.row) ≡ false → Refuses g y test to m
+        go : (c : Bool) → nat_eq m.table (far_table way t) ≡ c → (not c || chosen m.row) ≡ false → LeavesNothing g y rows i b gs to m
         go true same h =
             (let one : node_table y to ≡ m.table = table ∙ sym (eqb-true m.table (far_table way t) same) in
             let whole_is : record { table = node_table y to; row = m.row } ≡ m = (λ j. record { table = one j; row = m.row }) in
-            subst (Refuses g y test to) whole_is (alone_refuses g y to m.row test alone h))
+            subst (LeavesNothing g y rows i b gs to) whole_is (none m.row h))
         go false other h = cc h
+
+-- the node to which a list leads is known behind it
+known_to : (b : Group) (k : Known) (x from to : ℕ) (way : Direction) → b.binds ≡ Extend false x from to way → (after_step b.binds k).nodes to ≡ true
+unfolding after_step
+known_to b k x from to way binds = ap (λ s. (after_step s k).nodes to) binds ∙ ap (λ c. c || k.nodes to) (eq-eqb to to refl)
+
+module _ (g : Graph) (y : Typed) (rows : ℕ → List Partial) (i : ℕ) (b : Group) (gs : List Group) (k : Known) (x from to : ℕ) (way : Direction) (binds : b.binds ≡ Extend false x from to way) (placed : ArePlaced g.catalog y b.checks (after_step b.binds k)) (q : ℕ) where
+  -- it leaves nothing of a row that a test refuses which reads that node alone
+  pub test_leaves : (test : ℕ) → Asks test b.checks → reads_alone y to test ≡ true → passes_alone g y to test q ≡ false → LeavesNothing g y rows i b gs to (row_of y to q)
+  test_leaves test asks alone off = refused_end g y rows i b gs k test to (row_of y to q) placed (known_to b k x from to way binds) asks (alone_refuses g y to q test alone off)
+
+  -- nor of one of which the groups behind it make nothing
+  pub behind_leaves : MakeNothing g y rows (i + 1) gs to (row_of y to q) → LeavesNothing g y rows i b gs to (row_of y to q)
+  behind_leaves none = behind_end g y rows i b gs k to (row_of y to q) placed (known_to b k x from to way binds) none

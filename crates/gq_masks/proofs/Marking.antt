@@ -1,11 +1,12 @@
 -- Rows that are marked one after another.
-use Rattle.std.proofs.Common.{◌≡◌, ℕ, zero, suc, ◌+◌, ◌-◌, ◌<◌, ◌≤◌, ◌⊎◌, inl, inr, Bool, true, false, not, Option, Some, None, List, [], ◌∷◌, length, get_or, slice_get, refl, sym, ap, ◌∙◌, subst, arith}
+use Rattle.std.proofs.Common.{◌≡◌, ℕ, zero, suc, ◌+◌, ◌-◌, ◌*◌, ◌/◌, ◌%◌, ◌<◌, ◌≤◌, ◌⊎◌, inl, inr, Bool, true, false, not, ◌&&◌, Option, Some, None, List, [], ◌∷◌, length, get_or, slice_get, refl, sym, ap, ap₂, ◌∙◌, subst, arith}
 use Rattle.std.specs.Prelude.{All, IfSome, min}
 use Rattle.std.proofs.lemmas.Bool.{cases_lt}
 use Rattle.gq_base.specs.Plain.{Graph}
 use Rattle.gq_base.specs.declared.direction.Direction.{Direction}
 use Rattle.gq_bits.specs.Places.{is_marked}
-use Rattle.gq_masks.specs.Masks.{AreReached, IsPart, RowsReached, may_have, next_end}
+use Rattle.gq_bits.specs.declared.TheConstants.{VECTOR}
+use Rattle.gq_masks.specs.Masks.{AreReached, IsPart, RowsReached, marked_in, may_have, next_end}
 use Rattle.gq_masks.specs.steps.Told.{IsTold}
 use Rattle.gq_store.specs.Neighbours.{neighbours}
 
@@ -87,3 +88,21 @@ pub reached_still : (g : Graph) (table : ℕ) (direction : Direction) (told : �
     → AreReached (record { graph = g; table = table; direction = direction; told = told; marked = old }) all → ((k : ℕ) → may_have old k ≡ true → may_have new k ≡ true)
     → AreReached (record { graph = g; table = table; direction = direction; told = told; marked = new }) all
 reached_still g table direction told old new all before more = λ q low on. all_stay old new (neighbours g table direction q) more (before q low on)
+
+-- a place of a piece as a row
+at_piece : (pieces : List (List Bool)) (piece k : ℕ) (o : Option (List Bool)) → o ≡ slice_get pieces piece → k < VECTOR → may_have pieces (VECTOR * piece + k) ≡ marked_in o k
+at_piece pieces piece k o is low =
+    let number : (VECTOR * piece + k) / VECTOR ≡ piece = omega (arith, low) in
+    let place : (VECTOR * piece + k) % VECTOR ≡ k = omega (arith, low) in
+    ap₂ (λ n p. marked_in (slice_get pieces n) p) number place ∙ ap (λ x. marked_in x k) (sym is)
+
+-- what is marked of a piece
+pub kept_some : (pieces : List (List Bool)) (piece k : ℕ) (own : List Bool) → Some own ≡ slice_get pieces piece → k < VECTOR → is_marked own k ≡ may_have pieces (VECTOR * piece + k)
+kept_some pieces piece k own is low = sym (at_piece pieces piece k (Some own) is low)
+
+pub kept_all : (pieces : List (List Bool)) (piece k : ℕ) (b : Bool) → None ≡ slice_get pieces piece → k < VECTOR → b ≡ (b && may_have pieces (VECTOR * piece + k))
+kept_all pieces piece k b is low = go b ∙ ap (λ c. b && c) (sym (at_piece pieces piece k None is low))
+  where
+    go : (b : Bool) → b ≡ (b && true)
+    go true = refl
+    go false = refl

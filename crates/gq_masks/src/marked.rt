@@ -1,5 +1,6 @@
 //! Rows that are marked, so many at most.
-ghost use Rattle.std.specs.Prelude.{◌≡◌, ℕ, All, IfSome, true};
+ghost use Rattle.std.specs.Prelude.{◌≡◌, ◌<◌, ◌+◌, ◌*◌, ◌&&◌, ℕ, All, IfSome, true};
+ghost use Rattle.gq_bits.specs.Places.{is_marked};
 ghost use Rattle.gq_masks.specs.Masks.{may_have};
 
 use gq_base::Memory;
@@ -32,6 +33,17 @@ impl Marked {
         match self.pieces.get(row as usize / VECTOR as usize) {
             None => true,
             Some(marks) => marks.get(row % VECTOR),
+        }
+    }
+
+    /// Of a piece of rows, keeps those that may be marked.
+    pub(crate) fn keep(&self, piece: u32, marks: &mut Marks)
+        ensures { (k : ℕ) → k < VECTOR → is_marked marks.new k ≡ (is_marked marks.old k
+            && may_have self.now.pieces.items (VECTOR * piece + k)) }
+    {
+        match self.pieces.get(piece as usize) {
+            None => {}
+            Some(own) => marks.and(own),
         }
     }
 

@@ -1,5 +1,6 @@
 //! The rows from which relationships lead to chosen rows.
-ghost use Rattle.std.specs.Prelude.{◌≡◌, ◌<◌, ◌≤◌, ◌+◌, ℕ, Bool, All, IfSome, length, true};
+ghost use Rattle.std.specs.Prelude.{◌≡◌, ◌<◌, ◌≤◌, ◌+◌, ◌*◌, ◌&&◌, ℕ, Bool, All, IfSome, length};
+ghost use Rattle.std.specs.Prelude.{true};
 ghost use Rattle.gq_bits.specs.Places.{is_marked};
 ghost use Rattle.gq_masks.specs.Masks.{AreReached, IsPart, may_have, may_reach, next_end};
 ghost use Rattle.gq_store.specs.Neighbours.{near_rows, neighbours};
@@ -66,7 +67,7 @@ impl<'g> Mask<'g> {
         ensures told { IfSome result (λ m. m.told ≡ 0) }
     {
         let rows = end_count(graph, table, direction);
-        let far = end_count(graph, table, opposite(direction));
+        let far = end_count(graph, table, direction.opposite());
         match Marked::none(alloc, far) {
             Ok(marked) => Some(Mask {
                 graph,
@@ -97,6 +98,20 @@ impl<'g> Mask<'g> {
         self.marked.has(row)
     }
 
+    /// Of a piece of rows, `VECTOR` to each, keeps those to which a relationship may lead from one of
+    /// the chosen rows of which it is told.
+    pub fn keep(&self, piece: u32, marks: &mut Marks)
+        ensures { (k : ℕ) → k < VECTOR → is_marked marks.new k ≡ (is_marked marks.old k
+            && may_reach self.now (VECTOR * piece + k)) }
+    {
+        self.marked.keep(piece, marks);
+    }
+
+    /// Whether it is told of some rows yet: it is not told of all of them, and not given up.
+    pub fn is_open(&self) -> bool {
+        !self.ended && self.told < self.rows
+    }
+
     /// Whether it is time to tell of the next rows: it is asked for often enough for that to be worth
     /// while, and not given up.
     pub fn is_due(&mut self) -> bool
@@ -106,7 +121,7 @@ impl<'g> Mask<'g> {
             self.wait -= 1;
             return false;
         }
-        !self.ended && self.told < self.rows
+        self.is_open()
     }
 
     /// Of how many rows it is told.
@@ -194,14 +209,6 @@ fn mark_ends(graph: &Graph, table: u32, direction: Direction, row: u32, marked: 
     } else {
         marked.mark_one(graph.single(table, direction, row));
         true
-    }
-}
-
-// The other direction.
-fn opposite(direction: Direction) -> Direction {
-    match direction {
-        Direction::Forward => Direction::Backward,
-        Direction::Backward => Direction::Forward,
     }
 }
 
