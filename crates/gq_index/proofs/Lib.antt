@@ -1,2 +1,1 @@
-pub mod Coding
-pub mod Rows
+pub mod Keys

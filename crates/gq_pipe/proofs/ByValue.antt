@@ -231,25 +231,25 @@ module _ (c : Run) (run : IsRun c) (group : GroupSteps) (range : IsRange c group
 
 -- ---- the places of a piece
 
-module _ (c : Run) (run : IsRun c) (group : GroupSteps) (range : IsRange c group) (t : ValueIndex) (x : IsIndexed c group t) (row : Assignment) (held : IsHeld c row (known c group.first)) where
+module _ (c : Run) (run : IsRun c) (group : GroupSteps) (range : IsRange c group) (t : ValueIndex) (x : IsIndexed c group t) (on : t.stands ≡ true) (row : Assignment) (held : IsHeld c row (known c group.first)) where
   abbrev places : ℕ
   places = length (tries c.graph c.typed (built_at c group.first) (step_at c group.first) (before c row group.first))
 
-  many : places ≡ length (numbers_in x.build x.own)
-  many = place_count c run group range x.build x.own t.asked x.join row held ∙ sym (length-map (matches x.build []) (λ i. number_in (row_cell x.own (node_in x.build x.own.node i))))
+  many : places ≡ length (numbers_in t.build.now t.own)
+  many = place_count c run group range t.build.now t.own t.asked x.join row held ∙ sym (length-map (matches t.build.now []) (λ i. number_in (row_cell t.own (node_in t.build.now t.own.node i))))
 
-  pub none_found : (place : ℕ) → place < places → place + 1 < 2 ^ 32 → finds (asked_number t.asked row) (slice_index_or (numbers_in x.build x.own) place None) ≡ false → makes_one c group place row ≡ false
+  pub none_found : (place : ℕ) → place < places → place + 1 < 2 ^ 32 → finds (asked_number t.asked row) (slice_index_or (numbers_in t.build.now t.own) place None) ≡ false → makes_one c group place row ≡ false
   none_found place inside few off =
-      let count = place_count c run group range x.build x.own t.asked x.join row held in
-      none_made c run group range x.build x.own t.asked x.join row held place (omega (arith, inside, count)) few off
+      let count = place_count c run group range t.build.now t.own t.asked x.join row held in
+      none_made c run group range t.build.now t.own t.asked x.join row held place (omega (arith, inside, count)) few off
 
   module _ (piece first count : ℕ) (from : first ≡ VECTOR * piece) (much : count ≡ min (places - VECTOR * piece) VECTOR) (few : first + count < 2 ^ 32) (marks : List Bool) (f : IsFoundIn t piece row marks) where
-    found_at : (k : ℕ) → k < VECTOR → is_marked marks k ≡ finds (asked_number t.asked row) (slice_index_or (numbers_in x.build x.own) (VECTOR * piece + k) None)
-    found_at k low = f.each (numbers_in x.build x.own) k x.places low
+    found_at : (k : ℕ) → k < VECTOR → is_marked marks k ≡ finds (asked_number t.asked row) (slice_index_or (numbers_in t.build.now t.own) (VECTOR * piece + k) None)
+    found_at k low = f.each (numbers_in t.build.now t.own) k (x.places on) low
 
     not_past : (k : ℕ) → count ≤ k → is_marked marks k ≡ true → ⊥
     not_past k past on = elim (cases_lt k VECTOR) [
-      | inl low ↦ true≢false (sym on ∙ found_at k low ∙ ap (finds (asked_number t.asked row)) (get_or_past (numbers_in x.build x.own) (VECTOR * piece + k) None (omega (arith, past, low, much, many))) ∙ finds_none (asked_number t.asked row))
+      | inl low ↦ true≢false (sym on ∙ found_at k low ∙ ap (finds (asked_number t.asked row)) (get_or_past (numbers_in t.build.now t.own) (VECTOR * piece + k) None (omega (arith, past, low, much, many))) ∙ finds_none (asked_number t.asked row))
       | inr high ↦ (let whole = f.whole in true≢false (sym on ∙ get_or_past marks k false (omega (arith, high, whole))))
     ]
 
@@ -260,4 +260,4 @@ module _ (c : Run) (run : IsRun c) (group : GroupSteps) (range : IsRange c group
     others k low off =
         let at : first + k ≡ VECTOR * piece + k = omega (arith, from) in
         none_found (first + k) (omega (arith, low, much, from)) (omega (arith, low, few))
-        (ap (λ n. finds (asked_number t.asked row) (slice_index_or (numbers_in x.build x.own) n None)) at ∙ sym (found_at k (omega (arith, low, much))) ∙ off)
+        (ap (λ n. finds (asked_number t.asked row) (slice_index_or (numbers_in t.build.now t.own) n None)) at ∙ sym (found_at k (omega (arith, low, much))) ∙ off)

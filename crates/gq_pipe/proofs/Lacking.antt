@@ -3,6 +3,7 @@ use Rattle.std.proofs.Common.{◌≡◌, ℕ, zero, suc, ◌+◌, ◌<◌, Bool,
 use Rattle.std.specs.List.{AllByRecursion, range_with_len}
 use Rattle.std.proofs.lemmas.Bool.{eq-eqb, eqb-true, or_right}
 use Rattle.gq_adj.specs.Adjacent.{targets}
+use Rattle.gq_base.specs.Directions.{opposite}
 use Rattle.gq_base.specs.Plain.{Graph, rels_at}
 use Rattle.gq_base.specs.declared.NodeId.{NodeId}
 use Rattle.gq_base.specs.declared.PlainRel.{PlainRel}
@@ -17,7 +18,7 @@ use Rattle.gq_plan.specs.Meaning.{Partial, look, near, far, rels_for}
 use Rattle.gq_plan.specs.Plans.{Close}
 use Rattle.gq_plan.specs.declared.typed.Typed.{Typed}
 use Rattle.gq_plan.specs.declared.typed.TypedRel.{TypedRel}
-use Rattle.gq_store.specs.Neighbours.{near_end, near_ends, neighbours, opposite}
+use Rattle.gq_store.specs.Neighbours.{near_end, near_ends, neighbours}
 use Rattle.gq_law_groups.specs.Groups.{Group}
 use Rattle.gq_law_groups.proofs.Closing.{Marks, closes_end}
 use Rattle.gq_law_groups.proofs.Ending.{EndsAt}

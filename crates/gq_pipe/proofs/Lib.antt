@@ -19,6 +19,7 @@ pub mod Making
 pub mod Matched
 pub mod Matching
 pub mod Nothing
+pub mod Opening
 pub mod Piecing
 pub mod Products
 pub mod Pushing

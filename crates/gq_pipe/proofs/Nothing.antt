@@ -4,6 +4,7 @@ use Rattle.std.specs.Prelude.{slice_index, slice_index_or}
 use Rattle.std.proofs.lemmas.Bool.{and_parts, eq-eqb}
 use Rattle.std.proofs.lemmas.List.{append-nil, length-map, length-drop, get_or_default, get_or-map, get_or-set_same, get_or-drop}
 use Rattle.std.proofs.lemmas.Option.{slice_get_within}
+use Rattle.gq_base.specs.Directions.{opposite}
 use Rattle.gq_base.specs.declared.NodeId.{NodeId}
 use Rattle.gq_base.specs.declared.RelTable.{RelTable}
 use Rattle.gq_base.specs.declared.direction.Direction.{Direction}
@@ -16,7 +17,7 @@ use Rattle.gq_plan.specs.Plans.{Step, Extend, Close, Keep}
 use Rattle.gq_plan.specs.Rows.{node_at, node_table, rel_table, table_of}
 use Rattle.gq_plan.specs.declared.assignment.Assignment.{Assignment}
 use Rattle.gq_plan.specs.declared.typed.TypedRel.{TypedRel}
-use Rattle.gq_store.specs.Neighbours.{near_rows, neighbours, opposite}
+use Rattle.gq_store.specs.Neighbours.{near_rows, neighbours}
 use Rattle.gq_search.specs.Layouts.{IsPlace, Layout, number_of, walks}
 use Rattle.gq_law_groups.specs.Layout.{size_from}
 use Rattle.gq_law_groups.specs.Groups.{Group, AreGroups, makes_group, own, raw, raw_at}

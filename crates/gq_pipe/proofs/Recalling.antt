@@ -27,7 +27,7 @@ set_apart (x ∷ xs) zero (suc d) y other = refl
 set_apart (x ∷ xs) (suc i) zero y other = refl
 set_apart (x ∷ xs) (suc i) (suc d) y other = set_apart xs i d y (λ e. other (ap suc e))
 
-pub item_there : (ms : List (Option Remembered)) (depth : ℕ) (x : Option Remembered) (m : Remembered) → depth < length ms → x ≡ slice_index_or ms depth x → x ≡ Some m → slice_get ms depth ≡ Some (Some m)
+pub item_there : {X : Type 0} (ms : List (Option X)) (depth : ℕ) (x : Option X) (m : X) → depth < length ms → x ≡ slice_index_or ms depth x → x ≡ Some m → slice_get ms depth ≡ Some (Some m)
 item_there ms depth x m low is some = slice_get-get_or ms depth x low ∙ ap Some (sym is ∙ some)
 
 -- what is remembered in the place of one is of the same list
@@ -35,7 +35,7 @@ pub written_own : (c : Run) (x : GroupSteps) (ms : List (Option Remembered)) (de
 written_own c x ms depth n low r m at = let same : n ≡ m = cc (sym (set_there ms depth (Some n) low) ∙ at) in subst (λ k. ∥ IsRemembered c x k ∥₁) same r
 
 -- a place that is written again as it was
-pub same_again : (ms : List (Option Remembered)) (depth : ℕ) (x y : Option Remembered) → x ≡ slice_index_or ms depth x → y ≡ x → slice_set ms depth y ≡ ms
+pub same_again : {X : Type 0} (ms : List X) (depth : ℕ) (x y : X) → x ≡ slice_index_or ms depth x → y ≡ x → slice_set ms depth y ≡ ms
 same_again ms depth x y is same = ap (slice_set ms depth) (same ∙ is) ∙ set-get_or ms depth x
 
 -- ---- one group after another

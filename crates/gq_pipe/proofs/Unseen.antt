@@ -8,6 +8,7 @@ use Rattle.std.proofs.lemmas.Bool.{and_parts, eq-eqb}
 use Rattle.std.proofs.lemmas.List.{append-nil, length-map, length-drop, get_or_default, get_or-map, get_or-drop}
 use Rattle.std.proofs.lemmas.List.FromFn.{get_or-map-range_with_len, length-map-range_with_len}
 use Rattle.std.proofs.lemmas.Option.{slice_get_within, get_or_from_slice_get}
+use Rattle.gq_base.specs.Directions.{opposite}
 use Rattle.gq_base.specs.Plain.{Graph, rows_at}
 use Rattle.gq_base.specs.declared.NodeId.{NodeId}
 use Rattle.gq_base.specs.declared.RelTable.{RelTable}
@@ -25,7 +26,7 @@ use Rattle.gq_plan.specs.Plans.{Step, Scan, Extend, Keep}
 use Rattle.gq_plan.specs.Rows.{node_table, rel_table, table_of}
 use Rattle.gq_plan.specs.declared.assignment.Assignment.{Assignment}
 use Rattle.gq_plan.specs.declared.typed.Typed.{Typed}
-use Rattle.gq_store.specs.Neighbours.{near_rows, neighbours, opposite}
+use Rattle.gq_store.specs.Neighbours.{near_rows, neighbours}
 use Rattle.gq_search.specs.Layouts.{IsPlace, Layout, number_of, walks}
 use Rattle.gq_law_groups.specs.Layout.{ArePlaced, AreFlatEnough, known_with, size_from}
 use Rattle.gq_law_groups.specs.Groups.{Group, raw, raw_at}
@@ -198,9 +199,14 @@ module _ (c : Run) (ss : List GroupSteps) (row : Assignment) (pre : List ℕ) (s
     ends =
         ends_placed c (rows_in c ss) (flat_in ss) (0 + length pre + 1) here.rest (after_step (step_at c here.s.first) here.set) _ _ (told.later - (length pre + 1))
         (let behind : length pre < told.later = told.behind in let inside = told.inside in omega (arith, rest_long, behind, inside)) here.enough.2
-        (λ n gs p placed. masking.masked_end c.graph c.typed (rows_in c ss) n (group_in c.steps (group_at here.rest (told.later - (length pre + 1)))) gs (after_step (step_at c here.s.first) here.set) _ told.rel t.node t.far told.way follow.found follow.table (record { table = node_table c.typed t.node; row = own }) (may_reach t.mask) t.mask.told t.test p
+        (λ n gs p placed.
+        let later : GroupSteps = group_at here.rest (told.later - (length pre + 1)) in
+        let binds : step_at c later.first ≡ Extend false told.rel t.node t.far told.way = ap (λ (s : GroupSteps). step_at c s.first) later_is ∙ told.follows in
+        let asks : Asks t.test (group_in c.steps later).checks = subst (λ (s : GroupSteps). Asks t.test (group_in c.steps s).checks) (sym later_is) told.asks in
+        masking.masked_end c.graph c.typed (rows_in c ss) n (group_in c.steps later) gs (after_step (step_at c here.s.first) here.set) _ told.rel t.node t.far told.way follow.found follow.table (record { table = node_table c.typed t.node; row = own }) (passes_alone c.graph c.typed t.far t.test) (may_reach t.mask) t.mask.told
         follow.rel_is follow.table_at st.runs.valid (slice_get_within c.graph.catalog.rels follow.found.table follow.table follow.table_at) (follow.far ∙ ap Some (same_far told.way follow.table)) whole are
-        (ap (λ (s : GroupSteps). step_at c s.first) later_is ∙ told.follows) (subst (λ (s : GroupSteps). Asks t.test (group_in c.steps s).checks) (sym later_is) told.asks) told.seen.alone placed
+        binds
+        (λ q off. masking.test_leaves c.graph c.typed (rows_in c ss) n (group_in c.steps later) gs p told.rel t.node t.far told.way binds placed q t.test asks told.seen.alone off)
         own_known own_there unseen.off)
 
     nothing_there : walks (layout_in c ss) (length ss - (length pre + 1)) (pre ++ j ∷ []) ≡ []

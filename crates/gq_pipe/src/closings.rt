@@ -8,12 +8,10 @@ ghost use Rattle.gq_plan.specs.Plans.{Close, Extend};
 ghost use Rattle.gq_plan.specs.Rows.{rel_table};
 ghost use Rattle.gq_steps.specs.Levels.{step_at};
 ghost use Rattle.gq_steps.specs.Moves.{run_of, IsRun};
-ghost use Rattle.gq_store.specs.Neighbours.{opposite};
 
 use crate::ahead::Ahead;
 use crate::closing::Closing;
 use crate::sights::sight_of;
-use gq_base::Direction;
 use gq_near::NearSet;
 use gq_plan::Step;
 use gq_steps::{Follow, GroupSteps, PlanRun, following};
@@ -134,7 +132,7 @@ fn closes_at(plan_run: &PlanRun<'_>, depth: usize, node: u32) -> Option<Follow>
     if close.to == node {
         Some(close)
     } else if close.from == node {
-        let direction = opposite(close.direction);
+        let direction = close.direction.opposite();
         Some(following(close.rel, close.to, close.from, direction))
     } else {
         None
@@ -157,16 +155,6 @@ fn closes(plan_run: &PlanRun<'_>, depth: usize) -> Option<Follow>
             direction,
         } => Some(following(*rel, *from, *to, *direction)),
         _ => None,
-    }
-}
-
-/// The other direction.
-pub(crate) fn opposite(direction: Direction) -> Direction
-    ensures { result ≡ opposite direction }
-{
-    match direction {
-        Direction::Forward => Direction::Backward,
-        Direction::Backward => Direction::Forward,
     }
 }
 

@@ -1,14 +1,14 @@
 //! What groups that bind nodes are told by later ones that follow lists from these.
 ghost use Rattle.std.specs.Prelude.{◌≡◌, ◌<◌, length, false, true, IfSome};
+ghost use Rattle.gq_base.specs.Directions.{opposite};
 ghost use Rattle.gq_law_masks.specs.Alone.{reads_alone};
 ghost use Rattle.gq_pipe.specs.steps.Sights.{IsAsked, IsLead, IsSight};
 ghost use Rattle.gq_pipe.specs.steps.Told.{BindsNode};
 ghost use Rattle.gq_plan.specs.Rows.{rel_table};
 ghost use Rattle.gq_steps.specs.Levels.{step_at};
 ghost use Rattle.gq_steps.specs.Moves.{run_of, IsRun};
-ghost use Rattle.gq_store.specs.Neighbours.{opposite};
 
-use crate::closings::{extends, opposite};
+use crate::closings::extends;
 use crate::sight::Sight;
 use crate::valued::test_at;
 use gq_masks::Mask;
@@ -143,7 +143,7 @@ fn sight_by<'g>(alloc: Global, plan_run: &PlanRun<'g>, lead: Lead) -> Option<Sig
     if table >= plan_run.graph.catalog().rel_tables() {
         return None;
     }
-    let direction = opposite(lead.follow.direction);
+    let direction = lead.follow.direction.opposite();
     let mask = Mask::over(alloc, plan_run.graph, table, direction)?;
     Some(Sight {
         node: lead.follow.from,

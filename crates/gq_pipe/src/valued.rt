@@ -1,12 +1,13 @@
 //! Joins whose matches are found by a value: a test of the group asks that a property of a node of
 //! the build is equal to one of a node that stands.
-ghost use Rattle.std.specs.Prelude.{◌≡◌, ◌≢◌, ◌<◌, ◌≤◌, ◌+◌, ◌*◌, ◌^◌, [], ℕ, Bool, List, Some, IfOk, IfSome, length};
+ghost use Rattle.std.specs.Prelude.{◌≡◌, ◌≢◌, ◌<◌, ◌≤◌, ◌+◌, ◌*◌, ◌^◌, [], ℕ, Bool, List, Some, IfSome, length};
 ghost use Rattle.std.specs.Prelude.{slice_get, true, false};
 ghost use Rattle.gq_filter.specs.Equal.{HaveOne};
-ghost use Rattle.gq_index.specs.Numbered.{HasRows};
+ghost use Rattle.gq_index.specs.Numbered.{AreKeys};
 ghost use Rattle.gq_join.specs.Kept.{place_of};
 ghost use Rattle.gq_pipe.specs.steps.Recalled.{IsOwn};
-ghost use Rattle.gq_pipe.specs.steps.Valued.{AreIndexed, AsksEqual, IsFoundIn, IsIndexed, IsNotBefore};
+ghost use Rattle.gq_pipe.specs.steps.Valued.{AreIndexed, AreOpened, AsksEqual, IsFoundIn, IsIndexed, IsNotBefore};
+ghost use Rattle.gq_pipe.specs.steps.Valued.{IsOpened, IsUsable};
 ghost use Rattle.gq_pipe.specs.steps.Valued.{IsUnkeyed, IsValueJoin, is_test, number_in, numbers_in};
 ghost use Rattle.gq_plan.specs.Plans.{Keep};
 ghost use Rattle.gq_sift.specs.Among.{IsAmong};
@@ -18,7 +19,6 @@ ghost use Rattle.gq_steps.specs.Tries.{tries};
 ghost use Rattle.gq_steps.specs.steps.Outcomes.{passes_at};
 
 use crate::recalled::sift_piece;
-use gq_base::Memory;
 use gq_bits::{Marks, VECTOR};
 use gq_filter::{EqualColumns, NodeColumn};
 use gq_index::{RowsByNumber, number_of};
@@ -28,12 +28,22 @@ use gq_sift::{Remembered, sift_among};
 use gq_steps::{GroupSteps, PlanRun};
 use std::alloc::Global;
 
+/// At which opening of its list an index is filled: before, a search that ends soon pays nothing for
+/// it.
+const FILLED_AT: u32 = 3;
+
 /// The matches of a join without keys, by the values of a property of a node that its build keeps,
-/// and the property of a node that stands to which these have to be equal.
+/// and the property of a node that stands to which these have to be equal. There is room for them
+/// from the start on; they stand there once the list was opened often enough.
 #[derive(Drop)]
 pub(crate) struct ValueIndex<'g> {
     pub(crate) asked: NodeColumn<'g>,
+    pub(crate) own: NodeColumn<'g>,
+    pub(crate) build: &'g Sealed,
     pub(crate) places: RowsByNumber,
+    pub(crate) stands: bool,
+    // How often the list was opened before.
+    pub(crate) opened: u32,
 }
 
 // A join without keys, and two properties that a test of its group asks to be equal: one of a node
@@ -66,20 +76,74 @@ impl ValueIndex<'_> {
             Some(value) => self.places.next_piece(number_of(value), piece),
         }
     }
+
+    // One more opening of the list. It takes no memory, as there is room.
+    fn open(&mut self)
+        requires keys { self.old.build.now.keys ≡ [] }
+        requires kept { let h = self.old.build.now in
+            place_of h.nodes self.old.own.node < length h.nodes }
+        ensures { IsOpened self.old self.new }
+    {
+        if self.stands {
+            return;
+        }
+        self.opened = self.opened.saturating_add(1);
+        if self.opened < FILLED_AT {
+            return;
+        }
+        if fill(&mut self.places, self.build, self.own) {
+            self.places.sort();
+            self.stands = true;
+        }
+    }
 }
 
-/// The index of the group at a depth, if it has one.
+// Puts the matches of a build without keys beside the values of a property of a node that it keeps,
+// where there is room for them.
+fn fill(places: &mut RowsByNumber, build: &Sealed, own: NodeColumn<'_>) -> bool
+    requires keys { build.now.keys ≡ [] }
+    requires kept { place_of build.now.nodes own.node < length build.now.nodes }
+    ensures { result ≡ true → AreKeys (numbers_in build.now own.entry) places.new }
+{
+    places.clear();
+    let rows = build.matches(&[]);
+    for at in 0..rows.len() {
+        let node = build.node(rows[at], own.node);
+        match places.push(number_in(own.row_cell(node)), at as u32) {
+            Ok(()) => {}
+            Err(_) => return false,
+        }
+    }
+    true
+}
+
+/// One more opening of the list of the group at a depth, if it has an index.
+pub(crate) fn open_at(indexes: &mut Vec<Option<ValueIndex<'_>>>, depth: usize)
+    requires { (t : ValueIndex) → slice_get indexes.old.items depth ≡ Some (Some t) → IsUsable t }
+    ensures { AreOpened indexes.old.items indexes.new.items }
+{
+    match indexes.get_mut(depth) {
+        None => {}
+        Some(found) => match found {
+            None => {}
+            Some(index) => index.open(),
+        },
+    }
+}
+
+/// The index of the group at a depth, if it has one that stands.
 pub(crate) fn index_at<'i, 'g>(
     indexes: &'i [Option<ValueIndex<'g>>],
     depth: usize,
 ) -> Option<&'i ValueIndex<'g>>
-    ensures { IfSome result (λ t. slice_get indexes.now depth ≡ Some (Some t.now)) }
+    ensures there { IfSome result (λ t. slice_get indexes.now depth ≡ Some (Some t.now)) }
+    ensures stands { IfSome result (λ t. t.now.stands ≡ true) }
 {
     match indexes.get(depth) {
         None => None,
         Some(found) => match found {
             None => None,
-            Some(index) => Some(index),
+            Some(index) => { if index.stands { Some(index) } else { None } }
         },
     }
 }
@@ -108,7 +172,8 @@ pub(crate) fn sift_found(
     requires inside { let c = run_of plan_run.old in piece * VECTOR + count ≤ length (tries c.graph
         c.typed (built_at c group.first) (step_at c group.first) (before c row.old group.first)) }
     requires among { (t : ValueIndex) (marks : List Bool)
-        → slice_get indexes.now depth ≡ Some (Some t) → IsFoundIn t piece row.old marks
+        → slice_get indexes.now depth ≡ Some (Some t) → t.stands ≡ true
+        → IsFoundIn t piece row.old marks
         → IsAmong (run_of plan_run.old) group (piece * VECTOR) count row.old marks }
     requires own { IsOwn (run_of plan_run.old) group remembered.old.items depth }
     ensures sifted { IsSifted (run_of plan_run.old) group (piece * VECTOR) count row.old row.new
@@ -187,48 +252,17 @@ fn value_index<'g>(
     ensures { IfSome result (IsIndexed (run_of plan_run.now) group) }
 {
     let join = value_join(plan_run, group)?;
-    match places_by_value(alloc, join.build, join.own) {
+    match RowsByNumber::with_room(alloc, join.build.matches(&[]).len()) {
         Err(_) => None,
         Ok(places) => Some(ValueIndex {
             asked: join.asked,
+            own: join.own,
+            build: join.build,
             places,
+            stands: false,
+            opened: 0,
         }),
     }
-}
-
-// The matches of a build without keys, by the values of a property of a node that it keeps.
-fn places_by_value(
-    alloc: Global,
-    build: &Sealed,
-    own: NodeColumn<'_>,
-) -> Result<RowsByNumber, Memory>
-    requires keys { build.now.keys ≡ [] }
-    requires kept { place_of build.now.nodes own.node < length build.now.nodes }
-    ensures { IfOk result (λ places. HasRows (numbers_in build.now own.entry) places) }
-{
-    let cells = numbers_of(alloc, build, own)?;
-    let places = RowsByNumber::build(alloc, cells.as_slice())?;
-    Ok(places)
-}
-
-// The numbers of a property of a node that a build without keys keeps, match by match.
-fn numbers_of(
-    alloc: Global,
-    build: &Sealed,
-    own: NodeColumn<'_>,
-) -> Result<Vec<Option<u64>>, Memory>
-    requires keys { build.now.keys ≡ [] }
-    requires kept { place_of build.now.nodes own.node < length build.now.nodes }
-    ensures few { IfOk result (λ cells. length cells.items < 2 ^ 32) }
-    ensures cells { IfOk result (λ cells. cells.items ≡ numbers_in build.now own.entry) }
-{
-    let rows = build.matches(&[]);
-    let mut cells = Vec::with_capacity(alloc, rows.len())?;
-    for row in rows {
-        let node = build.node(*row, own.node);
-        cells.push(number_in(own.row_cell(node)))?;
-    }
-    Ok(cells)
 }
 
 // The number of a value, if there is one.

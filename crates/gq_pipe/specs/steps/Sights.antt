@@ -1,5 +1,6 @@
 -- What a group that binds a node is told by a later one that follows a list from it to a node of which a test is asked.
 use Rattle.std.specs.Prelude.{◌≡◌, ◌⊎◌, ℕ, ◌<◌, ◌≤◌, ◌^◌, true, false, Some, List, length, slice_get, slice_index}
+use Rattle.gq_base.specs.Directions.{opposite}
 use Rattle.gq_base.specs.declared.direction.Direction.{Direction}
 use Rattle.gq_law_masks.specs.Alone.{Asks, passes_alone, reads_alone}
 use Rattle.gq_masks.specs.Masks.{AreReached, may_reach}
@@ -12,7 +13,7 @@ use Rattle.gq_steps.specs.Groups.{group_at, group_in}
 use Rattle.gq_steps.specs.Levels.{Run, step_at}
 use Rattle.gq_steps.specs.declared.group_steps.GroupSteps.{GroupSteps}
 use Rattle.gq_steps.specs.declared.plan_run.Follow.{Follow}
-use Rattle.gq_store.specs.Neighbours.{near_rows, neighbours, opposite}
+use Rattle.gq_store.specs.Neighbours.{near_rows, neighbours}
 
 -- of the rows of which it is told, those are chosen that the test passes, which reads the other node alone
 pub record IsSeen (c : Run) (t : Sight) : Type 0 where

@@ -1,5 +1,6 @@
 -- Steps that close between nodes, and places of which they make nothing.
 use Rattle.std.specs.Prelude.{◌≡◌, ◌⊎◌, ℕ, ◌<◌, ◌^◌, false, true, Some, List, length, slice_get, slice_index}
+use Rattle.gq_base.specs.Directions.{opposite}
 use Rattle.gq_base.specs.Plain.{Graph}
 use Rattle.gq_near.specs.Rows.{RowsAhead, stands_in}
 use Rattle.gq_plan.specs.Plans.{Step, Scan, Extend, Close}
@@ -10,7 +11,7 @@ use Rattle.gq_steps.specs.Groups.{group_at}
 use Rattle.gq_steps.specs.Levels.{Run, step_at}
 use Rattle.gq_steps.specs.declared.group_steps.GroupSteps.{GroupSteps}
 use Rattle.gq_steps.specs.declared.plan_run.Follow.{Follow}
-use Rattle.gq_store.specs.Neighbours.{near_rows, neighbours, opposite}
+use Rattle.gq_store.specs.Neighbours.{near_rows, neighbours}
 
 -- a step closes a list with these relationships, one way or the other
 abbrev pub Closes : Follow → Step → Type 0

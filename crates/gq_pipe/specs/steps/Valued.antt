@@ -1,5 +1,5 @@
 -- Joins whose matches are found by a value: a test asks a property of a node of the build to be equal to one of a node that stands.
-use Rattle.std.specs.Prelude.{◌≡◌, ℕ, ℤ, ◌+◌, ◌*◌, ◌<◌, ◌≤◌, Bool, true, false, Option, Some, None, List, [], map, length, slice_get, slice_index_or}
+use Rattle.std.specs.Prelude.{◌≡◌, ℕ, ℤ, ◌+◌, ◌*◌, ◌<◌, ◌≤◌, ◌⊎◌, Bool, true, false, Option, Some, None, List, [], map, length, slice_get, slice_index_or}
 use Rattle.gq_bits.specs.Places.{is_marked}
 use Rattle.gq_bits.specs.declared.TheConstants.{VECTOR}
 use Rattle.gq_filter.specs.Equal.{AreOne, node_cell, row_cell}
@@ -70,15 +70,29 @@ pub record IsValueJoin (c : Run) (group : GroupSteps) (h : Held) (own asked : No
 
 -- ---- indexes
 
--- the matches of a group's join stand beside their values
+-- a group joins by a value; once its index stands, the matches of the join stand beside their values
 pub record IsIndexed (c : Run) (group : GroupSteps) (t : ValueIndex) : Type 0 where
-  pub build : Held
-  pub own : NodeColumn
-  pub join : IsValueJoin c group build own t.asked
-  pub places : HasRows (numbers_in build own) t.places
+  pub join : IsValueJoin c group t.build.now t.own t.asked
+  pub places : t.stands ≡ true → HasRows (numbers_in t.build.now t.own) t.places
 
 abbrev pub AreIndexed : Run → List GroupSteps → List (Option ValueIndex) → Type 0
 AreIndexed c ss ts = (depth : ℕ) (t : ValueIndex) → slice_get ts depth ≡ Some (Some t) → IsIndexed c (group_at ss depth) t
+
+-- the matches of its build can be filled in
+pub record IsUsable (t : ValueIndex) : Type 0 where
+  pub keys : t.build.now.keys ≡ []
+  pub kept : place_of t.build.now.nodes t.own.node < length t.build.now.nodes
+
+-- one more opening: an index that stands afterwards stood before, or has all matches now
+pub record IsOpened (old new : ValueIndex) : Type 0 where
+  pub asked : new.asked ≡ old.asked
+  pub own : new.own ≡ old.own
+  pub build : new.build.now ≡ old.build.now
+  pub places : new.stands ≡ true → ((old.stands ≡ true) × (new.places ≡ old.places)) ⊎ HasRows (numbers_in old.build.now old.own) new.places
+
+-- each of several is as it was, or was opened once more
+abbrev pub AreOpened : List (Option ValueIndex) → List (Option ValueIndex) → Type 0
+AreOpened olds news = (depth : ℕ) (u : ValueIndex) → slice_get news depth ≡ Some (Some u) → (t : ValueIndex) × (slice_get olds depth ≡ Some (Some t)) × ((u ≡ t) ⊎ IsOpened t u)
 
 -- the marks of the places of a piece at which the value stands that is asked for
 pub record IsFoundIn (t : ValueIndex) (piece : ℕ) (row : Assignment) (marks : List Bool) : Type 0 where

@@ -25,4 +25,4 @@ returns-in-Some-clause-blank c = λ pre long st.
     passed_blank (run_of c.args.self.now.plan_run) c.args.self.now.groups.items c.args.self.now.row c.as_slice.result.now
     (subst (λ (ts : List (Option ValueIndex)). ∥ AreIndexed (run_of c.args.self.now.plan_run) c.args.self.now.groups.items ts ∥₁) (sym c.as_slice.ensures.value) c.args.self.now.indexed)
     c.args.depth c.requires.inside (group_at c.args.self.now.groups.items c.args.depth) found pre long
-    (stands_at (run_of c.args.self.now.plan_run) c.args.self.now.groups.items c.args.self.now.row c.args.depth c.requires.inside pre long st.stand) c.in-Some.index.now c.in-Some.ensures c.args.piece c.next_piece.result (omega (arith, fits, told, asked, own)) c.next_piece.ensures
+    (stands_at (run_of c.args.self.now.plan_run) c.args.self.now.groups.items c.args.self.now.row c.args.depth c.requires.inside pre long st.stand) c.in-Some.index.now c.in-Some.ensures.there c.in-Some.ensures.stands c.args.piece c.next_piece.result (omega (arith, fits, told, asked, own)) c.next_piece.ensures

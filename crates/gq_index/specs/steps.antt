@@ -1,3 +1,0 @@
-pub mod Coded
-pub mod Pieces
-pub mod Rising
