@@ -53,7 +53,7 @@ fn flag(flat: &[bool], group: usize) -> bool
 
 /// Whether a step makes a group.
 #[tactic(auto, using(gq_plan::proofs::StepEquations::equations))]
-pub fn starts_group(step: &Step) -> bool
+pub(crate) fn starts_group(step: &Step) -> bool
     ensures { result ≡ makes_group (step_of step.now) }
 {
     match step {

@@ -4,21 +4,20 @@ ghost use Rattle.std.specs.Option.{option_copied};
 ghost use Rattle.gq_law_groups.specs.Order.{AreCut};
 ghost use Rattle.gq_plan.specs.Halves.{half_of};
 ghost use Rattle.gq_plan.specs.Plans.{step_of};
-ghost use Rattle.gq_plan.specs.Soundness as soundness;
 ghost use Rattle.gq_group.specs.declared.home.NodeHome.TheVariants.{Column};
 ghost use Rattle.gq_group.specs.declared.home.RelHome.TheVariants.{Kept};
-ghost use Rattle.gq_homes.specs.Homes.{AreHomes, filling_of, is_forward, kept_of};
+ghost use Rattle.gq_homes.specs.Homes.{AreHomes, is_forward, kept_of, leading_of};
 ghost use Rattle.gq_homes.specs.steps.Housing.{AreHoused, CanHouse, CanHouseBuild};
 ghost use Rattle.gq_homes.specs.steps.Housing.{brought_by, fillings_of, housed, not_in};
-ghost use Rattle.gq_homes.specs.steps.Housing.{set_numbered, with_build, with_filling};
-ghost use Rattle.gq_homes.specs.steps.Housing.{with_node_home};
+ghost use Rattle.gq_homes.specs.steps.Housing.{set_numbered, with_build, with_column};
+ghost use Rattle.gq_homes.specs.steps.Housing.{with_filling, with_node_home};
 ghost use Rattle.gq_steps.specs.Groups.{Tiles, group_at, groups_in};
 ghost use Rattle.gq_steps.specs.Moves.{run_of, IsRun};
 
 use gq_base::{Direction, List, Memory};
 use gq_group::{Homes, NodeHome, RelHome};
 use gq_join::Sealed;
-use gq_plan::{Half, Step};
+use gq_plan::{Half, Step, has_number};
 use gq_steps::{GroupSteps, PlanRun};
 use std::alloc::Global;
 
@@ -172,10 +171,7 @@ fn house(
             from,
             to,
             direction,
-        } => {
-            rels.set(*rel as usize, single(*from, *direction));
-            return add_column(led(group, *rel, *from, *direction), group, *to, housing);
-        }
+        } => return house_column(leading_of(group, *rel, *from, *direction), *to, housing),
         Step::ColumnClose {
             rel,
             from,
@@ -189,6 +185,21 @@ fn house(
         Step::Keep { .. } | Step::Differ { .. } | Step::NoLoop { .. } => {}
     }
     Ok(())
+}
+
+// Puts what a step over a column binds: the relationship where the one node has it that it leads from,
+// and the node to which it leads into a column more.
+fn house_column(leading: Leading, to: u32, housing: &mut Housing) -> Result<(), Memory>
+    requires rel { leading.rel < length housing.old.homes.rels }
+    requires to { to < length housing.old.homes.nodes }
+    ensures homes { OnOk result (housing.new.homes ≡ with_column leading to
+        (length housing.old.fillings.items) housing.old.homes) }
+    ensures fillings { OnOk result (housing.new.fillings.items ≡
+        housing.old.fillings.items ++ Filling.Led leading ∷ []) }
+{
+    let home = single(leading.from, leading.direction);
+    housing.homes.rels.set(leading.rel as usize, home);
+    add_column(Filling::Led(leading), leading.group, to, housing)
 }
 
 // Puts what a build keeps into the group of its join, if there is a build: node variables that are
@@ -241,7 +252,7 @@ fn house_nodes(
         ++ fillings_of spot.group spot.depth (not_in keys.now build.now.nodes)) }
 {
     for node in build.nodes() {
-        if !has_number(keys, *node) {
+        if !has_number(keys, *node as usize) {
             add_column(kept(spot, *node), spot.group, *node, housing)?;
         }
     }
@@ -269,21 +280,15 @@ fn add_column(filling: Filling, group: u32, node: u32, housing: &mut Housing) ->
     Ok(())
 }
 
-fn has_number(numbers: &[u32], number: u32) -> bool
-    ensures { result ≡ soundness.has_number numbers.now number }
+fn leading_of(group: u32, rel: u32, from: u32, direction: Direction) -> Leading
+    ensures { result ≡ leading_of group rel from direction }
 {
-    numbers.iter().any(|own| *own == number)
-}
-
-fn led(group: u32, rel: u32, from: u32, direction: Direction) -> Filling
-    ensures { result ≡ filling_of group rel from direction }
-{
-    Filling::Led(Leading {
+    Leading {
         group,
         rel,
         from,
         direction,
-    })
+    }
 }
 
 fn kept(spot: Spot, node: u32) -> Filling

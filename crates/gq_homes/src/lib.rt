@@ -7,6 +7,6 @@ mod groups;
 mod homes;
 mod spent;
 
-pub use groups::{cut_groups, starts_group};
+pub use groups::cut_groups;
 pub use homes::{Filling, Housing, Keeping, Leading, find_homes};
 pub use spent::{Spent, give_back};

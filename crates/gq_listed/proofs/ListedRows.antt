@@ -15,13 +15,14 @@ use Rattle.gq_plan.specs.declared.typed.Typed.{Typed}
 use Rattle.gq_kept.specs.Tables.{HoldsRows, IsSized, Pushes, StandsForSome, is_full_table, numbered, outcome_admitted, outcome_numbered}
 use Rattle.gq_kept.specs.declared.form.Form.{Form}
 use Rattle.gq_kept.specs.declared.form.Form.TheVariants as form
-use Rattle.gq_project.specs.declared.judging.Checked.TheVariants as checked
+use Rattle.gq_eval.specs.Judged.{judged_after}
+use Rattle.gq_eval.specs.declared.judging.Verdict.TheVariants as verdict
 use Rattle.gq_listed.specs.declared.listed.Asked as question
 use Rattle.gq_listed.specs.declared.listed.Listed.{Listed}
 use Rattle.gq_kept.specs.declared.refusal.More.{More}
 use Rattle.gq_kept.specs.declared.refusal.RowRefusal.{RowRefusal}
 use Rattle.gq_kept.specs.declared.refusal.RowRefusal.TheVariants as refusal
-use Rattle.gq_project.specs.Judged.{check_after, values_after}
+use Rattle.gq_project.specs.Judged.{values_after}
 use Rattle.gq_kept.specs.Forms.{Has, HasFull, HasMore, HasPast, IsNoFault, PushesHeld, TellsFull, more_rows}
 use Rattle.gq_listed.specs.Listed.{AddedIn, AddsIn, IsListing, IsPlain, PutsRow, held_in, outcome_in, outcome_within, table_in}
 use Rattle.gq_kept.proofs.Forms.{stands_by}
@@ -32,7 +33,7 @@ use Rattle.gq_kept.proofs.Standings.{pushes, room_of}
 -- ---- a row is added
 
 module _ (q : question.Asked) (here : reading.Assignment) (asks : List Asked) (are : asks ≡ asked_of q.graph.now q.bound.now.columns) (keyless : q.bound.now.keys ≡ [])
-    (is_met : checked.Met ≡ check_after checked.Met (meanings_of q.graph.now here (numbered q.bound.now.conjuncts q.late.now))) where
+    (is_met : verdict.Pass ≡ judged_after verdict.Pass (meanings_of q.graph.now here (numbered q.bound.now.conjuncts q.late.now))) where
   abbrev columns : List Outcome
   columns = meanings_of q.graph.now here q.bound.now.columns
 

@@ -1,9 +1,10 @@
 //! How the value of a column is kept for an assignment: as the row or the place that the column's
 //! variable has in its table, or else as the value itself.
-ghost use Rattle.std.specs.Prelude.{◌≡◌, ◌++◌, ◌∷◌, ◌<◌, [], IfOk, IfSome, OnOk, length};
+ghost use Rattle.std.specs.Prelude.{◌≡◌, ◌++◌, ◌∷◌, ◌<◌, [], IfOk, IfSome, List, OnOk, length};
 ghost use Rattle.gq_base.specs.Plain.{Graph as Plain};
 ghost use Rattle.gq_base.specs.Values.{val};
-ghost use Rattle.gq_eval.specs.Asked.{asked};
+ghost use Rattle.gq_cells.specs.declared.source.Source.{Source as Origin};
+ghost use Rattle.gq_eval.specs.Asked.{Asked, asked};
 ghost use Rattle.gq_expr.specs.Meaning.{meaning};
 ghost use Rattle.gq_expr.specs.Reading.{Assignment};
 ghost use Rattle.gq_listed.specs.Finding.{Extends, HasLoad, IsFinder, IsFound, IsNullAt};
@@ -173,12 +174,20 @@ impl Finder {
             }
             _ => {}
         }
-        Ok(Finder {
+        Ok(Finder::of_value(null))
+    }
+
+    // The values of any expression are kept themselves.
+    fn of_value(null: u32) -> Finder
+        ensures { (sources : List Origin) (of : Asked) → IsNullAt sources null
+            → IsFinder sources of result }
+    {
+        Finder {
             way: Way::Value,
             source: 0,
             null,
             lead: Lead::Unknown,
-        })
+        }
     }
 }
 

@@ -1,6 +1,8 @@
 //! Rows that are held as cells: those of a query without DISTINCT and without ORDER BY.
 ghost use Rattle.std.specs.Prelude.{◌≡◌, ◌<◌, ◌^◌, [], Some, OnOk, false, true};
 ghost use Rattle.gq_eval.specs.Asked.{answers, asked_of};
+ghost use Rattle.gq_eval.specs.Judged.{judged_after};
+ghost use Rattle.gq_eval.specs.declared.judging.Verdict.TheVariants.{Pass};
 ghost use Rattle.gq_group.specs.Choices.{Begins};
 ghost use Rattle.gq_group.specs.Chunks.{IsChunkOf};
 ghost use Rattle.gq_kept.specs.Chunks.{PushesAll, admitted_outcomes};
@@ -11,21 +13,19 @@ ghost use Rattle.gq_listed.specs.Leads.{AreLed, AreLedAt, IsSpot, here_at};
 ghost use Rattle.gq_listed.specs.Listed.{AddsIn, AreFinders, AreOver, Finding, IsAsked};
 ghost use Rattle.gq_listed.specs.Listed.{IsListing, PutsRow, held_in, is_listing, outcome_in};
 ghost use Rattle.gq_listed.specs.Listed.{outcome_within, table_in};
-ghost use Rattle.gq_project.specs.Judged.{check_after};
 ghost use Rattle.gq_project.specs.Reading.{at_numbers};
-ghost use Rattle.gq_project.specs.declared.judging.Checked.TheVariants.{Met};
 
 use crate::finder::{Finder, put_column, put_led_column};
 use crate::leads::Spot;
 use crate::tables::Tables;
 use gq_base::{List, Memory, Value};
 use gq_cells::{Cells, Source};
-use gq_eval::Evaluator;
+use gq_eval::{Evaluator, Verdict};
 use gq_expr::Assigned;
 use gq_group::{Choice, Chunk};
 use gq_kept::{Form, More, RowRefusal, may_keep};
 use gq_plan::{Bound, Typed};
-use gq_project::{Admits, Checked, Reading, check_late};
+use gq_project::{Admits, Reading, check_late};
 use gq_store::Graph;
 
 /// What is asked of each row where the rows are listed as they come, and the most rows that are
@@ -97,7 +97,7 @@ fn make_finders<'g>(
     let null = cells.add(Source::Value(Value::Null))?;
     finders.clear();
     'columns: for column in columns {
-        let finder = Finder::new(cells, null, &column.expr, &tables, graph)?;
+        let finder = Finder::new(cells, null, column.expr.get(), &tables, graph)?;
         finders.push(finder)?;
     }
     Ok(())
@@ -153,12 +153,12 @@ fn put_led_row<'g>(
 
 // What the conjuncts that are left say of an assignment. Mostly there are none.
 #[inline(always)]
-fn check_left<R: Assigned>(conjuncts: &List<Evaluator<'_>>, late: &[u32], row: &R) -> Checked
+fn check_left<R: Assigned>(conjuncts: &List<Evaluator<'_>>, late: &[u32], row: &R) -> Verdict
     ensures { let left = at_numbers conjuncts.now late.now in
-        result ≡ check_after Met (answers (R.assignment row.now) left) }
+        result ≡ judged_after Pass (answers (R.assignment row.now) left) }
 {
     match late {
-        [] => Checked::Met,
+        [] => Verdict::Pass,
         _ => check_late(conjuncts, late, row),
     }
 }
@@ -180,9 +180,9 @@ impl<'g> Listed<'g> {
         ensures more { OnOk result (Extends self.old.cells.sources self.new.cells.sources) }
     {
         match check_late(&asked.reading.conjuncts, asked.late, row) {
-            Checked::Dropped => return Ok(false),
-            Checked::Faulty(fault) => return Err(RowRefusal::Fault(fault)),
-            Checked::Met => {}
+            Verdict::Dropped => return Ok(false),
+            Verdict::Fault(fault) => return Err(RowRefusal::Fault(fault)),
+            Verdict::Pass => {}
         }
         let columns = asked.reading.columns.as_slice();
         match put_row(&mut self.cells, finders, columns, asked.graph, row) {
@@ -216,9 +216,9 @@ impl<'g> Listed<'g> {
         ensures more { OnOk result (Extends self.old.cells.sources self.new.cells.sources) }
     {
         match check_left(&asked.reading.conjuncts, asked.late, &spot.row()) {
-            Checked::Dropped => return Ok(false),
-            Checked::Faulty(fault) => return Err(RowRefusal::Fault(fault)),
-            Checked::Met => {}
+            Verdict::Dropped => return Ok(false),
+            Verdict::Fault(fault) => return Err(RowRefusal::Fault(fault)),
+            Verdict::Pass => {}
         }
         let columns = asked.reading.columns.as_slice();
         match put_led_row(&mut self.cells, finders, columns, spot) {

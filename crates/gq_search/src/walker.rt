@@ -107,8 +107,7 @@ impl Walker {
                 next = ahead;
             } else if next < self.numbers(levels, depth) {
                 if self.look(levels, lent, depth, next) {
-                    let place = self.place(levels, depth, next);
-                    self.stand(levels, lent, depth, next, place);
+                    self.stand(levels, lent, depth, next);
                     if depth + 1 == groups {
                         self.state = State::Standing;
                         return true;
@@ -119,11 +118,10 @@ impl Walker {
                 } else {
                     next = self.after(levels, depth, next);
                 }
+            } else if depth == 0 {
+                self.state = State::Done;
+                return false;
             } else {
-                if depth == 0 {
-                    self.state = State::Done;
-                    return false;
-                }
                 depth -= 1;
                 next = self.cursors[depth].key + 1;
             }
@@ -340,22 +338,21 @@ impl Walker {
         }
     }
 
-    // The group at a depth stands at a number.
-    fn stand<L: Levels>(
-        &mut self,
-        levels: &mut L,
-        lent: &mut L::Lent,
-        depth: usize,
-        next: u32,
-        place: u32,
-    )
+    // The group at a depth stands at a number, which has a kept place.
+    fn stand<L: Levels>(&mut self, levels: &mut L, lent: &mut L::Lent, depth: usize, next: u32)
         requires inside { depth < length self.old.cursors.items }
+        requires marks { depth < length self.old.marks.items }
         requires groups { depth < L.groups levels.old }
+        requires len { length (prefix self.old.cursors.items depth) ≡ depth }
         requires size { (L.layout levels.old).size (prefix self.old.cursors.items depth) < 2 ^ 32 }
+        requires number { next < count (L.layout levels.old) (prefix self.old.cursors.items depth) }
         requires at { IsAt (L.layout levels.old) (L.opened levels.old lent.old) (L.cut_at levels.old
             lent.old) (prefix self.old.cursors.items depth) next }
-        requires place { IsPlace (L.layout levels.old) (prefix self.old.cursors.items depth) next
-            place }
+        requires live { live (L.layout levels.old) (prefix self.old.cursors.items depth) next ≡
+            true }
+        requires marked { IsMarkedAt (L.layout levels.old) (prefix self.old.cursors.items depth)
+            (piece_of ((L.layout levels.old).flat (prefix self.old.cursors.items depth)) next)
+            (slice_index_or self.old.marks.items depth []) }
         ensures stands { L.stands levels.new lent.new (prefix self.old.cursors.items depth ++ next ∷
             []) }
         ensures cursors { self.new.cursors.items ≡ slice_set self.old.cursors.items depth (stands_at
@@ -367,6 +364,7 @@ impl Walker {
         ensures frame { L.frame lent.new ≡ L.frame lent.old }
         ensures kept { L.kept levels.new ≡ L.kept levels.old }
     {
+        let place = self.place(levels, depth, next);
         levels.stand(lent, depth, next, place);
         let size = self.cursors[depth].size;
         self.cursors[depth] = Cursor { size, key: next };

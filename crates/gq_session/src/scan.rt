@@ -42,6 +42,28 @@ fn from_plain(byte: u8) -> State
     }
 }
 
+// The state behind a byte that stands in a string in single quotes.
+fn from_single(byte: u8) -> State
+    ensures { result ≡ next_state State.Single byte }
+{
+    match byte {
+        b'\'' => State::Plain,
+        b'\\' => State::SingleEscape,
+        _ => State::Single,
+    }
+}
+
+// The state behind a byte that stands in a string in double quotes.
+fn from_double(byte: u8) -> State
+    ensures { result ≡ next_state State.Double byte }
+{
+    match byte {
+        b'"' => State::Plain,
+        b'\\' => State::DoubleEscape,
+        _ => State::Double,
+    }
+}
+
 impl State {
     /// The state behind the byte.
     pub fn next(self, byte: u8) -> State
@@ -54,17 +76,9 @@ impl State {
                 b'*' => State::Block,
                 _ => from_plain(byte),
             },
-            State::Single => match byte {
-                b'\'' => State::Plain,
-                b'\\' => State::SingleEscape,
-                _ => State::Single,
-            },
+            State::Single => from_single(byte),
             State::SingleEscape => State::Single,
-            State::Double => match byte {
-                b'"' => State::Plain,
-                b'\\' => State::DoubleEscape,
-                _ => State::Double,
-            },
+            State::Double => from_double(byte),
             State::DoubleEscape => State::Double,
             State::Quoted => {
                 if byte == b'`' {

@@ -15,7 +15,7 @@ columns-preserved c =
     record {
       found = subst (AreFinders ss _) (sym c.in_ok-push.ensures.items)
           (stay_and c.columns.cells.sources ss c.in_ok-finder.ensures.more g c.as_slice-columns.result.now c.column-item.result c.columns.column-index c.columns.finders.items f c.columns-test.true i.found
-          (subst (λ (x : NamedExpr). IsFinder ss (asked x.expr g) f) c.column-item.is c.in_ok-finder.ensures.finds));
+          (subst (λ (x : NamedExpr). IsFinder ss (asked x.expr g) f) c.column-item.is (rw c.get.ensures at c.in_ok-finder.ensures.finds)));
       null = c.in_ok-finder.ensures.more _ _ i.null;
       values = c.in_ok-finder.ensures.values ∙ i.values;
     }

@@ -35,3 +35,6 @@ returns-in-Some-rel_table-clause-finds c =
 
 pub returns-in-Some-rel_table-clause-more : goal.returns-in-Some-rel_table-clause-more
 returns-in-Some-rel_table-clause-more c = extends _ _ _ c.in_ok-source-in-Rel.ensures.sources
+
+pub returns-clause-finds : goal.returns-clause-finds
+returns-clause-finds c = c.of_value.ensures c.args.cells.now.sources _ c.requires

@@ -1,8 +1,8 @@
 use Rattle.std.proofs.Common.{◌∙◌, ◌+◌, ap, refl, subst, sym}
-use Rattle.gq_project.specs.declared.judging.Checked.TheVariants.{Met}
+use Rattle.gq_eval.specs.declared.judging.Verdict.TheVariants.{Pass}
 use Rattle.gq_eval.specs.Asked.{answers}
 use Rattle.gq_plan.specs.Assignments.{row_of}
-use Rattle.gq_project.specs.Judged.{check_after}
+use Rattle.gq_eval.specs.Judged.{judged_after}
 use Rattle.gq_project.specs.Reading.{at_numbers}
 use Rattle.gq_listed.specs.Leads.{here_at}
 use Rattle.gq_listed.specs.Listed.{AreFinders, AreOver}
@@ -16,13 +16,13 @@ pub returns-in-Dropped-clause-adds : goal.returns-in-Dropped-clause-adds
 returns-in-Dropped-clause-adds c =
     let q = c.args.asked.now in
     let late = late_mean q.graph.now (here_at c.args.spot.now) q.bound.now.conjuncts q.reading.now.conjuncts q.late.now c.requires.reading.conjuncts in
-    (when_dropped _ _ _ _ (sym c.in-Dropped.is ∙ c.check_left.ensures ∙ ap (λ t. check_after Met (answers (row_of t) (at_numbers q.reading.now.conjuncts q.late.now))) c.row.ensures ∙ ap (check_after Met) late), refl)
+    (when_dropped _ _ _ _ (sym c.in-Dropped.is ∙ c.check_left.ensures ∙ ap (λ t. judged_after Pass (answers (row_of t) (at_numbers q.reading.now.conjuncts q.late.now))) c.row.ensures ∙ ap (judged_after Pass) late), refl)
 
-pub returns-in-Faulty-clause-adds : goal.returns-in-Faulty-clause-adds
-returns-in-Faulty-clause-adds c =
+pub returns-in-Fault-clause-adds : goal.returns-in-Fault-clause-adds
+returns-in-Fault-clause-adds c =
     let q = c.args.asked.now in
     let late = late_mean q.graph.now (here_at c.args.spot.now) q.bound.now.conjuncts q.reading.now.conjuncts q.late.now c.requires.reading.conjuncts in
-    when_faulty _ _ _ _ _ (sym c.in-Faulty.is ∙ c.check_left.ensures ∙ ap (λ t. check_after Met (answers (row_of t) (at_numbers q.reading.now.conjuncts q.late.now))) c.row.ensures ∙ ap (check_after Met) late)
+    when_faulty _ _ _ _ _ (sym c.in-Fault.is ∙ c.check_left.ensures ∙ ap (λ t. judged_after Pass (answers (row_of t) (at_numbers q.reading.now.conjuncts q.late.now))) c.row.ensures ∙ ap (judged_after Pass) late)
 
 pub put_led_row-requires-clause-finders : goal.put_led_row-requires-clause-finders
 put_led_row-requires-clause-finders c = subst (λ asks. AreFinders c.args.self.now.cells.sources asks c.args.finders.now) (sym (c.as_slice-columns.ensures ∙ c.requires.reading.columns)) c.requires.finders
@@ -32,7 +32,7 @@ returns-in-Err-clause-adds c =
     let q = c.args.asked.now in
     let here = here_at c.args.spot.now in
     let late = late_mean q.graph.now here q.bound.now.conjuncts q.reading.now.conjuncts q.late.now c.requires.reading.conjuncts in
-    failed q here c.as_slice-columns.result.now (c.as_slice-columns.ensures ∙ c.requires.reading.columns) c.requires.keyless (sym c.in-Met.is ∙ c.check_left.ensures ∙ ap (λ t. check_after Met (answers (row_of t) (at_numbers q.reading.now.conjuncts q.late.now))) c.row.ensures ∙ ap (check_after Met) late)
+    failed q here c.as_slice-columns.result.now (c.as_slice-columns.ensures ∙ c.requires.reading.columns) c.requires.keyless (sym c.in-Pass.is ∙ c.check_left.ensures ∙ ap (λ t. judged_after Pass (answers (row_of t) (at_numbers q.reading.now.conjuncts q.late.now))) c.row.ensures ∙ ap (judged_after Pass) late)
     c.args.self.now (record c.args.self.now { cells = c.put_led_row.new.cells }) c.put_led_row.new.cells.values c.in-Err.refusal c.in-Err.ensures.puts
 
 pub returns-clause-adds : goal.returns-clause-adds
@@ -40,7 +40,7 @@ returns-clause-adds c =
     let q = c.args.asked.now in
     let here = here_at c.args.spot.now in
     let late = late_mean q.graph.now here q.bound.now.conjuncts q.reading.now.conjuncts q.late.now c.requires.reading.conjuncts in
-    kept q here c.as_slice-columns.result.now (c.as_slice-columns.ensures ∙ c.requires.reading.columns) c.requires.keyless (sym c.in-Met.is ∙ c.check_left.ensures ∙ ap (λ t. check_after Met (answers (row_of t) (at_numbers q.reading.now.conjuncts q.late.now))) c.row.ensures ∙ ap (check_after Met) late)
+    kept q here c.as_slice-columns.result.now (c.as_slice-columns.ensures ∙ c.requires.reading.columns) c.requires.keyless (sym c.in-Pass.is ∙ c.check_left.ensures ∙ ap (λ t. judged_after Pass (answers (row_of t) (at_numbers q.reading.now.conjuncts q.late.now))) c.row.ensures ∙ ap (judged_after Pass) late)
     c.args.self.now (record { cells = c.put_led_row.new.cells; count = c.args.self.now.count + 1 }) c.in-Ok.ensures.puts refl (c.may_keep.ensures.yes c.if-not-may_keep.false)
 
 pub returns-then-not-may_keep-clause-adds : goal.returns-then-not-may_keep-clause-adds
@@ -50,7 +50,7 @@ returns-then-not-may_keep-clause-adds c =
     let late = late_mean q.graph.now here q.bound.now.conjuncts q.reading.now.conjuncts q.late.now c.requires.reading.conjuncts in (
       refl,
       c.may_keep.ensures.no c.if-not-may_keep.true,
-      many q here c.as_slice-columns.result.now (c.as_slice-columns.ensures ∙ c.requires.reading.columns) c.requires.keyless (sym c.in-Met.is ∙ c.check_left.ensures ∙ ap (λ t. check_after Met (answers (row_of t) (at_numbers q.reading.now.conjuncts q.late.now))) c.row.ensures ∙ ap (check_after Met) late) c.args.self.now c.put_led_row.new.cells.values c.in-Ok.ensures.puts,
+      many q here c.as_slice-columns.result.now (c.as_slice-columns.ensures ∙ c.requires.reading.columns) c.requires.keyless (sym c.in-Pass.is ∙ c.check_left.ensures ∙ ap (λ t. judged_after Pass (answers (row_of t) (at_numbers q.reading.now.conjuncts q.late.now))) c.row.ensures ∙ ap (judged_after Pass) late) c.args.self.now c.put_led_row.new.cells.values c.in-Ok.ensures.puts,
     )
 
 pub put_led_row-requires-clause-graph : goal.put_led_row-requires-clause-graph

@@ -197,12 +197,12 @@ returns-then-depth-eq0-clause-moves g c =
     ends (g.L.Levels.layout c.args.levels.now) (g.L.Levels.groups c.args.levels.now) (record { cursors = c.args.self.now.cursors.items; marks = c.args.self.now.marks.items; state = c.args.self.now.state })
     (record { cursors = c.search.self.cursors.items; marks = c.search.self.marks.items; state = Done }) i.search.opened.groups i.search.opened.marks none refl
 
-pub overflow_add-next-else-next-numbers : goal.overflow_add-next-else-next-numbers
-overflow_add-next-else-next-numbers g c =
+pub overflow_add-next-else-depth-eq0 : goal.overflow_add-next-else-depth-eq0
+overflow_add-next-else-depth-eq0 g c =
     let i = c.search.invariant in
     let o = i.search.opened in
     let at : c.search.depth - 1 + 1 ≡ c.search.depth = omega (arith, c.if-depth-eq0.false) in
-    let is = get_or_read_under c.search.self.cursors.items (c.search.depth - 1) _ c.index-else-next-numbers.result.now no_cursor c.index-else-next-numbers.ensures (omega (arith, c.if-depth-eq0.false, o.inside, o.groups, c.search.self.cursors.ok.0)) c.search.self.cursors.ok.0 in
+    let is = get_or_read_under c.search.self.cursors.items (c.search.depth - 1) _ c.index-else-depth-eq0.result.now no_cursor c.index-else-depth-eq0.ensures (omega (arith, c.if-depth-eq0.false, o.inside, o.groups, c.search.self.cursors.ok.0)) c.search.self.cursors.ok.0 in
     omega (
       arith,
       ap (λ (x : Cursor). x.key) is,
@@ -211,17 +211,17 @@ overflow_add-next-else-next-numbers g c =
     )
 
 -- the group before goes on
-before : (g : _) (c : goal.After-index-else-next-numbers g) → After (g.L.Levels.layout c.args.levels.now) (g.L.Levels.layout c.search.levels) (g.L.Levels.groups c.args.levels.now) (g.L.Levels.groups c.search.levels)
+before : (g : _) (c : goal.After-index-else-depth-eq0 g) → After (g.L.Levels.layout c.args.levels.now) (g.L.Levels.layout c.search.levels) (g.L.Levels.groups c.args.levels.now) (g.L.Levels.groups c.search.levels)
     (keys_owed (g.L.Levels.layout c.args.levels.now) (g.L.Levels.groups c.args.levels.now) (record { cursors = c.args.self.now.cursors.items; marks = c.args.self.now.marks.items; state = c.args.self.now.state }))
     (g.L.Levels.opened c.search.levels c.search.lent) (g.L.Levels.cut_at c.search.levels c.search.lent)
     (left (g.L.Levels.layout c.args.levels.now) (g.L.Levels.groups c.args.levels.now) [] (prefix c.search.self.cursors.items c.search.depth) c.search.next)
-    c.search.self.cursors.items c.search.self.marks.items (c.search.depth - 1) (c.index-else-next-numbers.result.now.key + 1)
+    c.search.self.cursors.items c.search.self.marks.items (c.search.depth - 1) (c.index-else-depth-eq0.result.now.key + 1)
 before g c =
     let i = c.search.invariant in
     let o = i.search.opened in
     let l : Layout = g.L.Levels.layout c.args.levels.now in
     let at : c.search.depth - 1 + 1 ≡ c.search.depth = omega (arith, c.if-depth-eq0.false) in
-    let is = get_or_read_under c.search.self.cursors.items (c.search.depth - 1) _ c.index-else-next-numbers.result.now no_cursor c.index-else-next-numbers.ensures (omega (arith, c.if-depth-eq0.false, o.inside, o.groups, c.search.self.cursors.ok.0)) c.search.self.cursors.ok.0 in
+    let is = get_or_read_under c.search.self.cursors.items (c.search.depth - 1) _ c.index-else-depth-eq0.result.now no_cursor c.index-else-depth-eq0.ensures (omega (arith, c.if-depth-eq0.false, o.inside, o.groups, c.search.self.cursors.ok.0)) c.search.self.cursors.ok.0 in
     let many : c.numbers.result ≡ count (g.L.Levels.layout c.args.levels.now) (prefix c.search.self.cursors.items (c.search.depth - 1 + 1)) =
     c.numbers.ensures ∙ ap (λ x. count x (prefix c.search.self.cursors.items c.search.depth)) i.layout ∙ ap (λ d. count (g.L.Levels.layout c.args.levels.now) (prefix c.search.self.cursors.items d)) (sym at) in
     let stands : g.L.Levels.stands c.search.levels c.search.lent (prefix c.search.self.cursors.items (c.search.depth - 1 + 1)) =
