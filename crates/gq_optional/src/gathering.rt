@@ -15,7 +15,7 @@ use crate::clause::Matches;
 use gq_base::{List, Memory};
 use gq_join::JoinRefusal;
 use gq_pipe::{Filled, Spent, make_build, make_builds};
-use gq_plan::{Plan, Typed};
+use gq_plan::{Plan, Typed, has_number};
 use gq_pool::VectorPool;
 use gq_store::Graph;
 use std::alloc::Global;
@@ -26,16 +26,9 @@ pub(crate) fn shared_of(alloc: Global, known: &[u32], nodes: &[u32]) -> Result<L
 {
     let mut shared = List::new(alloc);
     'nodes: for node in nodes {
-        shared.push(is_known(known, *node))?;
+        shared.push(has_number(known, *node as usize))?;
     }
     Ok(shared)
-}
-
-// Whether a variable is known.
-fn is_known(known: &[u32], variable: u32) -> bool
-    ensures { result ≡ has_number known.now variable }
-{
-    known.iter().any(|one| *one == variable)
 }
 
 /// The places of the variables that are shared.
