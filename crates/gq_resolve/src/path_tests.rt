@@ -39,7 +39,7 @@ impl<'t> Model for NamedTest<'t> {
 /// The test that a condition is: an EXISTS, alone or inside parentheses and NOTs alone.
 #[cycle(test_of)]
 #[tactic(auto, using(crate::proofs::Tests::test_out))]
-pub fn test_of<'t>(tree: &'t Ast) -> Option<PathTest<'t>>
+pub(crate) fn test_of<'t>(tree: &'t Ast) -> Option<PathTest<'t>>
     ensures { result ≡ tests.test_of tree.now }
 {
     match &tree.node {

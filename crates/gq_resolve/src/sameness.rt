@@ -11,7 +11,7 @@ use gq_expr::{ArithOperand, CompareOperand, Expr, ExprTester, Tester};
 
 /// Whether two expressions are the same.
 #[tactic(auto, using(crate::proofs::Walks::sameness))]
-pub fn same(expr: &Expr, other: &Expr) -> bool
+pub(crate) fn same(expr: &Expr, other: &Expr) -> bool
     ensures { result ≡ same_expr expr.now other.now }
 {
     let count = place_count(expr);
