@@ -227,23 +227,27 @@ module _ (d : List (List ℕ)) (part : List ℕ) (low high : ℕ) where
             has : IsIn d part at hit
             has = record { low = begins; fits = omega (arith, fits, ends); there = at_hit }
 
-        -- it ends in another text, and is none
-        pub hit_passed : (length part ≤ start_of d (at + 1) - hit → ⊥) → IsSearched at (hit + 1) marks
+        -- it ends in another text: none is left in the one that it begins in
+        pub hit_passed : (length part ≤ start_of d (at + 1) - hit → ⊥) → IsSearched (at + 1) (start_of d (at + 1)) marks
         hit_passed over = record {
           whole = s.whole;
           first = omega (arith, s.first, from_code);
           last = omega (arith, below);
-          begun = omega (arith, begins);
-          within = omega (arith, hit_within);
-          done = done_to hit at before_hit (omega (arith, below)) begins;
-          later = λ k le. s.later k (omega (arith, le, from_code));
-          passed = λ c p le less early here. elim (cases_lt p hit) [
-            | inl before ↦ before_hit c p (omega (arith, le, from_code)) less before here
-            | inr late ↦ elim (cases_eq c at) [
-              | inl same ↦
-                  (let top : start_of d (c + 1) ≡ start_of d (at + 1) = ap (λ i. start_of d (i + 1)) same in
-                  over (omega (arith, early, late, here.fits, top)))
-              | inr other ↦ absurd (omega (arith, early, late, here.low, ends, starts_rise d (at + 1) c (omega (arith, le, other))))
-            ]
+          begun = omega arith;
+          within = starts_rise d (at + 1) high (omega (arith, below));
+          done = λ k less. elim (cases_eq (low + k) at) [
+            | inl same ↦
+                s.later k (omega (arith, same, from_code))
+                ∙ sym (has_none d part at (omega (arith, below, inside)) has_not)
+                ∙ ap (λ c. occurs (text_at d c) part) (sym same)
+            | inr other ↦ done_to hit at before_hit (omega (arith, below)) begins k (omega (arith, less, other))
           ];
+          later = λ k le. s.later k (omega (arith, le, from_code));
+          passed = λ c p le less early here. absurd (omega (arith, early, here.low, starts_rise d (at + 1) c le));
         }
+          where
+            has_not : (p : ℕ) → IsIn d part at p → ⊥
+            has_not p here = elim (cases_lt p hit) [
+              | inl before ↦ before_hit at p from_code below before here
+              | inr late ↦ over (omega (arith, late, here.fits))
+            ]

@@ -1,5 +1,5 @@
 //! Which texts of a dictionary have a part, by one search over the bytes of many texts: each place that is found is put
-//! to the text that it begins in, and is none where it ends in another.
+//! to the text that it begins in, and is none where it ends in another. Behind either none is left in that text.
 ghost use Rattle.std.specs.Prelude.{◌≡◌, ◌+◌, ◌-◌, ◌<◌, ◌≤◌, ℕ, length};
 ghost use Rattle.gq_bits.specs.Places.{is_marked};
 ghost use Rattle.gq_dict.specs.Texts.{start_of, text_at};
@@ -31,11 +31,9 @@ pub(crate) fn found_marks(dict: &Dict, part: &Finder<'_>, low: u32, high: u32) -
         code = code_at(dict, code, high, hit);
         if part.needle().len() <= dict.start(code + 1) - hit {
             marks.set(code - low, true);
-            code += 1;
-            from = dict.start(code);
-        } else {
-            from = hit + 1;
         }
+        code += 1;
+        from = dict.start(code);
     }
     marks
 }

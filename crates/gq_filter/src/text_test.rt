@@ -35,6 +35,10 @@ const SHORT: usize = 48;
 // side by side, where a row waits for the bytes of its own.
 const AHEAD: u32 = 8;
 
+// The texts of a piece that have so many bytes together, sixteen each, are tried one by one as fast as
+// by a search that ends in each of them.
+const FEW_BYTES: usize = 32_768;
+
 /// A text property of a node variable, and what its text is to have.
 #[derive(Drop)]
 pub(crate) struct PartTest<'g> {
@@ -93,26 +97,39 @@ impl CodeSet {
             self.left = self.left.saturating_sub(marks.count());
             return;
         }
+        let mut often = false;
         'pieces: for _ in 0..test.dict.len().div_ceil(VECTOR) {
-            try_codes(&mut self.known, test);
+            often = try_codes(&mut self.known, test, often);
         }
     }
 }
 
-// Tries the codes of the next piece.
-fn try_codes(known: &mut RowSet, test: &PartTest<'_>)
+// Tries the codes of the next piece, and says whether most of their texts pass. Where most of those
+// before do, short texts are tried one by one, which takes less than a search that ends in each.
+fn try_codes(known: &mut RowSet, test: &PartTest<'_>, often: bool) -> bool
     requires { IsKnown test.now known.old }
     ensures { IsKnown test.now known.new }
 {
     let low = known.told();
     let high = known.next_end();
-    let marks = marks_of(&test.part, test.dict, low, high);
+    let alone = often && are_short(test.dict, low, high);
+    let marks = marks_of(&test.part, test.dict, low, high, alone);
+    let often = marks.count() > (high - low) / 2;
     let _ = known.tell(marks);
+    often
+}
+
+// Whether the texts of a piece are short.
+fn are_short(dict: &Dict, low: u32, high: u32) -> bool
+    requires ordered { low ≤ high }
+    requires inside { high ≤ length dict.now }
+{
+    dict.start(high).saturating_sub(dict.start(low)) <= FEW_BYTES
 }
 
 // Which of the texts from one code on have a part. One that stands anywhere is searched for in all of
-// them at once.
-fn marks_of(part: &Part<'_>, dict: &Dict, low: u32, high: u32) -> Marks
+// them at once, where they are not to be tried one by one.
+fn marks_of(part: &Part<'_>, dict: &Dict, low: u32, high: u32, alone: bool) -> Marks
     requires ordered { low ≤ high }
     requires few { high - low ≤ VECTOR }
     requires inside { high ≤ length dict.now }
@@ -121,7 +138,7 @@ fn marks_of(part: &Part<'_>, dict: &Dict, low: u32, high: u32) -> Marks
 {
     match part {
         Part::End(_) => tried_marks(part, dict, low, high),
-        Part::Inner(inner) => if inner.needle().is_empty() {
+        Part::Inner(inner) => if alone || inner.needle().is_empty() {
             tried_marks(part, dict, low, high)
         } else {
             found_marks(dict, inner, low, high)

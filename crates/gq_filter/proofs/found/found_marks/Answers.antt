@@ -6,6 +6,7 @@ use Rattle.memchr.specs.Find.{FindsNeedle}
 use Rattle.gq_dict.specs.Texts.{start_of}
 use Rattle.gq_filter.proofs.Searching.{IsSearched, all_searched, hit_marked, hit_passed, none_left, none_searched, start_within}
 use Rattle.gq_filter.proofs.found.found_marks.Goals as goal
+use Rattle.gq_filter.proofs.found.found_marks.Goals.{then-needle-start, else-needle-start}
 
 -- what is found in the part of the bytes that is searched
 part_of : (d : List (List ℕ)) (high : ℕ) (bytes part : List ℕ) (from end : ℕ) (found : Option ℕ) → bytes ≡ concat d → end ≡ start_of d high
@@ -34,19 +35,6 @@ returns-in_default c =
     all_searched d part c.args.low c.args.high c.requires.inside c.requires.part s.code s.from s.marks s.invariant
     (part_of d c.args.high c.bytes-bytes.result.now part s.from c.start-end.result None c.bytes-bytes.ensures c.start-end.ensures c.in_default.ensures)
 
-pub loop-from-preserved-then-needle-start : goal.loop-from-preserved-then-needle-start
-loop-from-preserved-then-needle-start c =
-    let d = c.args.dict.now in
-    let part = c.args.part.now in
-    let s = c.loop-from in
-    let at = c.code_at-code.result in
-    let found = part_of d c.args.high c.bytes-bytes.result.now part s.from c.start-end.result (Some c.in-Some.place) c.bytes-bytes.ensures c.start-end.ensures c.in-Some.ensures in
-    let fits : length part ≤ start_of d (at + 1) - (s.from + c.in-Some.place) = omega (arith, c.if-needle-start.true, ap length c.needle.ensures, c.start.ensures) in
-    subst (λ from. IsSearched d part c.args.low c.args.high (at + 1) from c.set.new.self) (sym c.start-from-then-needle-start.ensures)
-    (hit_marked d part c.args.low c.args.high c.requires.inside c.requires.part s.code s.from s.marks s.invariant c.in-Some.place found at
-    c.code_at-code.ensures.from c.code_at-code.ensures.high c.code_at-code.ensures.begins c.code_at-code.ensures.ends
-    c.set.new.self c.requires.few fits c.set.ensures.written c.set.ensures.whole)
-
 pub loop-from-preserved : goal.loop-from-preserved
 loop-from-preserved c =
     let d = c.args.dict.now in
@@ -54,9 +42,20 @@ loop-from-preserved c =
     let s = c.loop-from in
     let at = c.code_at-code.result in
     let found = part_of d c.args.high c.bytes-bytes.result.now part s.from c.start-end.result (Some c.in-Some.place) c.bytes-bytes.ensures c.start-end.ensures c.in-Some.ensures in
-    hit_passed d part c.args.low c.args.high c.requires.inside c.requires.part s.code s.from s.marks s.invariant c.in-Some.place found at
-    c.code_at-code.ensures.from c.code_at-code.ensures.high c.code_at-code.ensures.begins c.code_at-code.ensures.ends
-    (λ fits. omega (arith, fits, c.if-needle-start.false, ap length c.needle.ensures, c.start.ensures))
+    subst (λ from. IsSearched d part c.args.low c.args.high (at + 1) from c.if-needle-start.marks) (sym c.start-from-in-loop-from.ensures)
+    (elim c.if-needle-start.branch [
+      | then-needle-start w ↦
+          (let fits : length part ≤ start_of d (at + 1) - (s.from + c.in-Some.place) = omega (arith, w.if-needle-start.true, ap length c.needle.ensures, c.start.ensures) in
+          subst (IsSearched d part c.args.low c.args.high (at + 1) (start_of d (at + 1))) (sym w.marks-is)
+          (hit_marked d part c.args.low c.args.high c.requires.inside c.requires.part s.code s.from s.marks s.invariant c.in-Some.place found at
+          c.code_at-code.ensures.from c.code_at-code.ensures.high c.code_at-code.ensures.begins c.code_at-code.ensures.ends
+          w.set.new.self c.requires.few fits w.set.ensures.written w.set.ensures.whole))
+      | else-needle-start w ↦
+          subst (IsSearched d part c.args.low c.args.high (at + 1) (start_of d (at + 1))) (sym w.marks-is)
+          (hit_passed d part c.args.low c.args.high c.requires.inside c.requires.part s.code s.from s.marks s.invariant c.in-Some.place found at
+          c.code_at-code.ensures.from c.code_at-code.ensures.high c.code_at-code.ensures.begins c.code_at-code.ensures.ends
+          (λ fits. omega (arith, fits, w.if-needle-start.false, ap length c.needle.ensures, c.start.ensures)))
+    ])
 
 pub returns : goal.returns
 returns c =
