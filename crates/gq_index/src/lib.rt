@@ -2,6 +2,7 @@
 //! no such row. The crate stands on the marks of `gq_bits`.
 #![tactic(auto)]
 
+mod among;
 mod by_number;
 mod integer;
 mod key;
