@@ -9,8 +9,9 @@ use Rattle.gq_law_groups.specs.Layout.{known_with, AreFlatEnough}
 use Rattle.gq_base.specs.Catalogs.{Tables}
 use Rattle.gq_plan.specs.Known.{Known}
 use Rattle.gq_plan.specs.declared.typed.Typed.{Typed}
-use Rattle.gq_homes.specs.Cuts.{step_in, flag, TilesTo, IsCutTo}
+use Rattle.gq_homes.specs.Cuts.{step_in, flag, group_of, TilesTo, IsCutTo}
 use Rattle.gq_homes.specs.steps.Cutting.{IsCutting}
+use Rattle.gq_steps.specs.Actions.{action_of}
 use Rattle.gq_steps.specs.Levels.{Run}
 use Rattle.gq_steps.specs.Groups.{group_at, group_in, Tiles}
 use Rattle.gq_steps.specs.declared.group_steps.GroupSteps.{GroupSteps}
@@ -30,38 +31,51 @@ module _ (ss : List Step) where
   cut_more [] s h makes none = (makes, none, tt)
   cut_more (t ∷ gs) s h makes none = (h.0, h.1, cut_more gs s h.2 makes none)
 
+  before : (gs : List GroupSteps) (s : GroupSteps) (i : ℕ) → i < length gs → group_at (gs ++ s ∷ []) i ≡ group_at gs i
+  before [] s i low = absurd (omega arith)
+  before (t ∷ gs) s zero low = refl
+  before (t ∷ gs) s (suc i) low = before gs s i (omega arith)
+
+  last_at : (gs : List GroupSteps) (s : GroupSteps) → group_at (gs ++ s ∷ []) (length gs) ≡ s
+  last_at [] s = refl
+  last_at (t ∷ gs) s = last_at gs s
+
+  many : (gs : List GroupSteps) (s : GroupSteps) → length (gs ++ s ∷ []) ≡ length gs + 1
+  many [] s = refl
+  many (t ∷ gs) s = let e = many gs s in omega (arith, e)
+
   flags_more : (flat : List Bool) (gs : List GroupSteps) (s : GroupSteps) → ((i : ℕ) → i < length gs → (group_at gs i).flat ≡ flag flat i) → s.flat ≡ flag flat (length gs) → (i : ℕ) → i < length (gs ++ s ∷ []) → (group_at (gs ++ s ∷ []) i).flat ≡ flag flat i
   flags_more flat gs s all last i low = go (cases_lt i (length gs))
     where
-      before : (gs : List GroupSteps) (i : ℕ) → i < length gs → group_at (gs ++ s ∷ []) i ≡ group_at gs i
-      before [] i low = absurd (omega arith)
-      before (t ∷ gs) zero low = refl
-      before (t ∷ gs) (suc i) low = before gs i (omega arith)
-
-      at : (gs : List GroupSteps) → group_at (gs ++ s ∷ []) (length gs) ≡ s
-      at [] = refl
-      at (t ∷ gs) = at gs
-
-      many : (gs : List GroupSteps) → length (gs ++ s ∷ []) ≡ length gs + 1
-      many [] = refl
-      many (t ∷ gs) = let e = many gs in omega (arith, e)
-
       go : (i < length gs) ⊎ (length gs ≤ i) → (group_at (gs ++ s ∷ []) i).flat ≡ flag flat i
-      go (inl h) = ap (λ (t : GroupSteps). t.flat) (before gs i h) ∙ all i h
+      go (inl h) = ap (λ (t : GroupSteps). t.flat) (before gs s i h) ∙ all i h
       go (inr h) =
-          let e : i ≡ length gs = omega (arith, h, low, many gs) in
-          ap (λ j. (group_at (gs ++ s ∷ []) j).flat) e ∙ ap (λ (t : GroupSteps). t.flat) (at gs) ∙ last ∙ ap (flag flat) (sym e)
+          let e : i ≡ length gs = omega (arith, h, low, many gs s) in
+          ap (λ j. (group_at (gs ++ s ∷ []) j).flat) e ∙ ap (λ (t : GroupSteps). t.flat) (last_at gs s) ∙ last ∙ ap (flag flat) (sym e)
+
+  abbrev IsTold : GroupSteps → Type 0
+  IsTold s = s.action ≡ action_of (step_in ss s.first)
+
+  actions_more : (gs : List GroupSteps) (s : GroupSteps) → ((i : ℕ) → i < length gs → IsTold (group_at gs i)) → IsTold s → (i : ℕ) → i < length (gs ++ s ∷ []) → IsTold (group_at (gs ++ s ∷ []) i)
+  actions_more gs s all last i low = go (cases_lt i (length gs))
+    where
+      go : (i < length gs) ⊎ (length gs ≤ i) → IsTold (group_at (gs ++ s ∷ []) i)
+      go (inl h) = subst IsTold (sym (before gs s i h)) (all i h)
+      go (inr h) =
+          let e : i ≡ length gs = omega (arith, h, low, many gs s) in
+          subst IsTold (sym (ap (group_at (gs ++ s ∷ [])) e ∙ last_at gs s)) last
 
   -- one group more
-  pub cut_on : (flat : List Bool) (gs : List GroupSteps) (first end : ℕ) (f : Bool) → f ≡ flag flat (length gs) → IsCutting ss flat gs first end → IsCutTo ss flat (gs ++ record { first = first; end = end; flat = f } ∷ []) end
+  pub cut_on : (flat : List Bool) (gs : List GroupSteps) (first end : ℕ) (f : Bool) → f ≡ flag flat (length gs) → IsCutting ss flat gs first end → IsCutTo ss flat (gs ++ group_of ss first end f ∷ []) end
   cut_on flat gs first end f is c =
       let low = c.low in
       let high = c.high in
       record {
-        tiles = tiles_more 0 gs first (record { first = first; end = end; flat = f }) c.before.tiles refl c.low c.high;
-        cut = cut_more gs (record { first = first; end = end; flat = f }) c.before.cut c.starts
+        tiles = tiles_more 0 gs first (group_of ss first end f) c.before.tiles refl c.low c.high;
+        cut = cut_more gs (group_of ss first end f) c.before.cut c.starts
             (none_in ss (first + 1) (end - (first + 1)) (omega (arith, low, high)) (λ d above below. c.rest d (omega (arith, above)) (omega (arith, below, low))));
-        flags = flags_more flat gs (record { first = first; end = end; flat = f }) c.before.flags is;
+        flags = flags_more flat gs (group_of ss first end f) c.before.flags is;
+        actions = actions_more gs (group_of ss first end f) c.before.actions refl;
       }
 
   pub cutting_from : (flat : List Bool) → 0 < length ss → makes_group (step_in ss 0) ≡ true → IsCutting ss flat [] 0 1
@@ -70,11 +84,11 @@ module _ (ss : List Step) where
     high = omega (arith, some);
     starts = makes;
     rest = λ d above below. absurd (omega (arith, above, below));
-    before = record { tiles = refl; cut = tt; flags = λ i low. absurd (omega (arith, low)) };
+    before = record { tiles = refl; cut = tt; flags = λ i low. absurd (omega (arith, low)); actions = λ i low. absurd (omega (arith, low)) };
   }
 
   pub cutting_next : (flat : List Bool) (gs : List GroupSteps) (first end : ℕ) (f : Bool) → f ≡ flag flat (length gs) → IsCutting ss flat gs first end → end < length ss → makes_group (step_in ss end) ≡ true
-      → IsCutting ss flat (gs ++ record { first = first; end = end; flat = f } ∷ []) end (end + 1)
+      → IsCutting ss flat (gs ++ group_of ss first end f ∷ []) end (end + 1)
   cutting_next flat gs first end f is c low makes = record {
     low = omega arith;
     high = omega (arith, low);

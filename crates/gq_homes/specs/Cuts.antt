@@ -3,11 +3,16 @@ use Rattle.std.specs.Prelude.{◌≡◌, ◌<◌, ◌≤◌, ℕ, Bool, false, L
 use Rattle.gq_plan.specs.Plans.{Plan, Done, Then, Step, Keep}
 use Rattle.gq_law_groups.specs.Groups.{Group, makes_group, cut_from}
 use Rattle.gq_law_groups.specs.Order.{AreCut}
+use Rattle.gq_steps.specs.Actions.{action_of}
 use Rattle.gq_steps.specs.Groups.{group_at, group_in}
 use Rattle.gq_steps.specs.declared.group_steps.GroupSteps.{GroupSteps}
 
 abbrev pub step_in : List Step → ℕ → Step
 step_in ss d = slice_index_or ss d (Keep 0)
+
+-- the group of the steps from one on up to another
+abbrev pub group_of : List Step → ℕ → ℕ → Bool → GroupSteps
+group_of ss first end flat = record { first = first; end = end; flat = flat; action = action_of (step_in ss first) }
 
 -- whether the group of a number is to be flat
 abbrev pub flag : List Bool → ℕ → Bool
@@ -23,6 +28,7 @@ pub record IsCutTo (ss : List Step) (flat : List Bool) (gs : List GroupSteps) (t
   pub tiles : TilesTo ss 0 gs to
   pub cut : AreCut (map (group_in ss) gs)
   pub flags : (i : ℕ) → i < length gs → (group_at gs i).flat ≡ flag flat i
+  pub actions : (i : ℕ) → i < length gs → (group_at gs i).action ≡ action_of (step_in ss (group_at gs i).first)
 
 -- the groups of a plan that begins with a step that makes one
 abbrev pub groups_of : Plan → List Group

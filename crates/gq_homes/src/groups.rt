@@ -2,7 +2,7 @@
 ghost use Rattle.std.specs.Prelude.{◌≡◌, ◌<◌, length, true, IfOk};
 ghost use Rattle.gq_law_groups.specs.Groups.{makes_group};
 ghost use Rattle.gq_plan.specs.Plans.{step_of};
-ghost use Rattle.gq_homes.specs.Cuts.{IsCutTo, flag, step_in};
+ghost use Rattle.gq_homes.specs.Cuts.{IsCutTo, flag, group_of, step_in};
 ghost use Rattle.gq_steps.specs.Moves.{run_steps};
 
 use gq_base::Memory;
@@ -32,14 +32,28 @@ pub fn cut_groups(
     while end < steps.len() {
         if starts_group(steps[end].step) {
             let flat = flag(flat, groups.len());
-            groups.push(GroupSteps { first, end, flat })?;
+            groups.push(group_of(steps, first, end, flat))?;
             first = end;
         }
         end += 1;
     }
     let flat = flag(flat, groups.len());
-    groups.push(GroupSteps { first, end, flat })?;
+    groups.push(group_of(steps, first, end, flat))?;
     Ok(groups)
+}
+
+// The group of the steps from one on up to another.
+fn group_of(steps: &[RunStep<'_>], first: usize, end: usize, flat: bool) -> GroupSteps
+    requires { first < length steps.now }
+    ensures { result ≡ group_of (run_steps steps.now) first end flat }
+{
+    let step = steps[first];
+    GroupSteps {
+        first,
+        end,
+        flat,
+        action: step.action(),
+    }
 }
 
 fn flag(flat: &[bool], group: usize) -> bool

@@ -5,12 +5,11 @@ use Rattle.std.proofs.lemmas.Bool.{and_parts, cases_lt, lt-ltb, le-ltb, ltb-true
 use Rattle.std.proofs.lemmas.List.{length-map, get_or_default}
 use Rattle.gq_bits.specs.declared.TheConstants.{VECTOR}
 use Rattle.gq_plan.specs.Covers.{fits_step, goes, after_step}
-use Rattle.gq_plan.specs.Halves.{half_of, runs_step}
+use Rattle.gq_plan.specs.Halves.{runs_step}
 use Rattle.gq_plan.specs.Known.{Known, none}
 use Rattle.gq_plan.specs.Meaning.{Partial, nothing, look, far, arrive, with_rel, keep_if, rels_from, holds, mean}
 use Rattle.gq_plan.specs.Allowed.{at_same}
-use Rattle.gq_plan.specs.Plans.{Step, Scan, Extend, Close, Join, Keep, Differ, NoLoop, Single, Meet, step_of}
-use Rattle.gq_plan.specs.declared.plan.Step as code
+use Rattle.gq_plan.specs.Plans.{Step, Scan, Extend, Close, Join, Keep, Differ, NoLoop, Single, Meet}
 use Rattle.gq_plan.specs.declared.assignment.Assignment.{Assignment}
 use Rattle.gq_search.specs.Layouts.{number_of, has_one}
 use Rattle.gq_search.specs.Marked.{IsMarkedAt}
@@ -21,6 +20,7 @@ use Rattle.gq_law_groups.proofs.Alike.{AreAlike}
 use Rattle.gq_law_groups.proofs.Single.{from_small}
 use Rattle.gq_law_groups.proofs.Standing.{as_long, same_passes, next_group}
 use Rattle.gq_steps.specs.Keeps.{made_at, makes_one, IsSifted, IsRange, IsPlaceMade, IsTriedAt}
+use Rattle.gq_steps.specs.Actions.{action_of}
 use Rattle.gq_steps.specs.Levels.{Run, step_at, built_at, built_of, known, before}
 use Rattle.gq_steps.specs.steps.Lists.{flat_in, rows_in, layout_in, AreBound, IsAtStep, Chain, Stands, IsUntested}
 use Rattle.gq_steps.specs.Groups.{no_group, group_at, group_in, groups_in, Tiles}
@@ -33,7 +33,7 @@ use Rattle.gq_steps.specs.declared.group_steps.GroupSteps.{GroupSteps}
 use Rattle.gq_steps.proofs.Binding.{before_alike, fits_at}
 use Rattle.gq_steps.proofs.Going.{less_held, less_alike}
 use Rattle.gq_steps.specs.declared.plan_run.PlanRun.{PlanRun}
-use Rattle.gq_steps.proofs.Trying.{as_many_steps, half_at, step_is}
+use Rattle.gq_steps.proofs.Trying.{as_many_steps}
 use Rattle.gq_steps.proofs.Whole.{raw_long, made_is}
 
 -- rows and load numbers that changed behind a step
@@ -185,6 +185,7 @@ module _ (c : Run) (ss : List GroupSteps) (row : Assignment) (pre : List ℕ) (s
   range = record {
     some = at.some;
     inside = at.inside;
+    action = subst (λ (s : GroupSteps). s.action ≡ action_of (step_at c s.first)) at.is (st.grouped.actions (length pre) low);
     tests = no_group_at;
     small = λ d after_it before_end a.
         (let inside = at.inside in
@@ -397,6 +398,5 @@ untested c s short all e =
     let none : s.end - (s.first + 1) ≡ 0 = omega (arith, short) in
     rw (all e, none) refl
 
-pub untested_step : (p : PlanRun) (s : GroupSteps) (low : s.first < length (steps_in p)) (x : code.Step) (t : code.Step) (u : Step) → s.end ≤ s.first + 1 → slice_index_or (steps_in p) s.first x ≡ t → step_of t ≡ u
-    → ((e : Partial) → own (run_of p).graph (run_of p).typed (half_of (half_at p s.first) u) e ≡ true) → IsUntested (run_of p) s
-untested_step p s low x t u short is same all = untested (run_of p) s short (λ e. ap (λ v. own (run_of p).graph (run_of p).typed v e) (step_is p s.first low x t u is same) ∙ all e)
+pub untested_at : (p : PlanRun) (s : GroupSteps) (u : Step) → step_at (run_of p) s.first ≡ u → s.end ≤ s.first + 1 → ((e : Partial) → own (run_of p).graph (run_of p).typed u e ≡ true) → IsUntested (run_of p) s
+untested_at p s u is short all = untested (run_of p) s short (λ e. ap (λ v. own (run_of p).graph (run_of p).typed v e) is ∙ all e)

@@ -1,3 +1,4 @@
+pub mod Acting
 pub mod Binding
 pub mod Followed
 pub mod Going
@@ -7,7 +8,6 @@ pub mod Joined
 pub mod Joining
 pub mod Levels
 pub mod Matched
-pub mod Matching
 pub mod Piecing
 pub mod Standings
 pub mod Stepping

@@ -6,6 +6,7 @@ use Rattle.gq_plan.specs.Plans.{steps}
 use Rattle.gq_plan.specs.declared.assignment.Assignment.{Assignment}
 use Rattle.gq_search.specs.Layouts.{has_one}
 use Rattle.gq_law_groups.specs.Groups.{makes_group}
+use Rattle.gq_steps.specs.Actions.{action_of}
 use Rattle.gq_steps.specs.Levels.{Run, step_at, built_at, known, before}
 use Rattle.gq_steps.specs.Moves.{IsHeld, IsAlike, IsMade}
 use Rattle.gq_steps.specs.Tries.{tries}
@@ -19,10 +20,11 @@ made_by c from end a = mean c.graph c.typed (steps (take (end - from) (drop from
 abbrev pub made_at : Run → GroupSteps → ℕ → Assignment → List Partial
 made_at c group place row = flat_map (made_by c (group.first + 1) group.end) (slice_index_or (tries c.graph c.typed (built_at c group.first) (step_at c group.first) (before c row group.first)) place [])
 
--- steps of the plan, of which those after the first make no group, and at most one assignment each
+-- steps of the plan, of the first of which it is told what it does; those after it make no group, and at most one assignment each
 pub record IsRange (c : Run) (group : GroupSteps) : Type 0 where
   pub some : group.first < group.end
   pub inside : group.end ≤ length c.steps
+  pub action : group.action ≡ action_of (step_at c group.first)
   pub tests : (d : ℕ) → group.first < d → d < group.end → makes_group (step_at c d) ≡ false
   pub small : (d : ℕ) → group.first < d → d < group.end → (a : Partial) → length (tries c.graph c.typed (built_at c d) (step_at c d) a) ≤ 1
 

@@ -1,3 +1,4 @@
+pub mod Actions
 pub mod Built
 pub mod Follows
 pub mod Given
@@ -7,5 +8,6 @@ pub mod Levels
 pub mod Matches
 pub mod Moves
 pub mod Pieces
+pub mod Reaching
 pub mod Tries
 pub mod steps

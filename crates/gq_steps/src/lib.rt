@@ -4,11 +4,14 @@
 //! `gq_filter`.
 #![tactic(auto)]
 
+mod action;
 mod follow;
 mod group_steps;
 mod pieces;
 mod plan_run;
+mod reaching;
 mod sizes;
 
+pub use action::Action;
 pub use group_steps::GroupSteps;
 pub use plan_run::{Follow, PlanRun, RunStep, Tried, following};

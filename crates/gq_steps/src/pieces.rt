@@ -4,6 +4,7 @@ ghost use Rattle.std.specs.Prelude.{slice_index_or, All, ◌^◌};
 ghost use Rattle.gq_base.specs.Directions.{opposite};
 ghost use Rattle.gq_law_groups.specs.Groups.{makes_group};
 ghost use Rattle.gq_steps.specs.Pieces.{IsPieceOf, KeepsOf, list_of, part};
+ghost use Rattle.gq_steps.specs.Actions.{action_of};
 ghost use Rattle.gq_steps.specs.Levels.{known, step_at};
 ghost use Rattle.gq_steps.specs.Matches.{AreMatches};
 ghost use Rattle.gq_steps.specs.Moves.{builds_in, run_of, steps_in, IsRun, IsHeld};
@@ -11,59 +12,51 @@ ghost use Rattle.gq_steps.specs.Follows.{CanList};
 ghost use Rattle.gq_plan.specs.Rows.{rel_table};
 ghost use Rattle.gq_store.specs.Neighbours.{near_rows, neighbours};
 
-use crate::plan_run::{Follow, PlanRun, following};
+use crate::action::Action;
+use crate::group_steps::GroupSteps;
+use crate::plan_run::{Follow, PlanRun};
 use gq_bits::VECTOR;
 use gq_group::{KeptRels, Piece};
-use gq_plan::{Assignment, Step};
+use gq_plan::Assignment;
 
 impl<'g> PlanRun<'g> {
-    /// The piece of the list of the step at a depth that begins at a place, if the step makes a
-    /// group. A join's matches are told.
-    pub fn piece(&self, depth: usize, matches: &'g [u32], first: u32, row: &Assignment) -> Piece<'g>
+    /// The piece that begins at a place of the list of a group's first step, which makes the group. A
+    /// join's matches are told.
+    pub fn piece(
+        &self,
+        group: GroupSteps,
+        matches: &'g [u32],
+        first: u32,
+        row: &Assignment,
+    ) -> Piece<'g>
         requires run { IsRun (run_of self.now) }
-        requires depth { depth < length (steps_in self.now) }
-        requires makes { makes_group (step_at (run_of self.now) depth) ≡ true }
-        requires held { IsHeld (run_of self.now) row.now (known (run_of self.now) depth) }
-        requires matches { AreMatches (run_of self.now) depth row.now matches.now }
+        requires step { group.first < length (steps_in self.now) }
+        requires action { group.action ≡ action_of (step_at (run_of self.now) group.first) }
+        requires makes { makes_group (step_at (run_of self.now) group.first) ≡ true }
+        requires held { IsHeld (run_of self.now) row.now (known (run_of self.now) group.first) }
+        requires matches { AreMatches (run_of self.now) group.first row.now matches.now }
         requires first { let c = run_of self.now in
-            first ≤ length (list_of c depth row.now (step_at c depth)) }
-        ensures { IsPieceOf (run_of self.now) depth row.now first result }
+            first ≤ length (list_of c group.first row.now (step_at c group.first)) }
+        ensures { IsPieceOf (run_of self.now) group.first row.now first result }
     {
-        match self.step(depth) {
-            Step::Scan { node } => Piece::Span {
+        match group.action {
+            Action::Scan(node) => Piece::Span {
                 low: first,
-                high: end_of(first, self.row_count(*node)),
+                high: end_of(first, self.row_count(node)),
             },
-            Step::Extend {
-                rel,
-                from,
-                to,
-                direction,
-            } => Piece::List {
-                ids: part(
-                    self.list(following(*rel, *from, *to, *direction), row),
-                    first,
-                ),
+            Action::List(follow) => Piece::List {
+                ids: part(self.list(follow, row), first),
                 first,
             },
-            Step::Close {
-                rel,
-                from,
-                to,
-                direction,
-            } => Piece::List {
-                ids: part(
-                    self.list(following(*rel, *from, *to, *direction), row),
-                    first,
-                ),
+            Action::Close(follow) => Piece::List {
+                ids: part(self.list(follow, row), first),
                 first,
             },
-            Step::Join { .. } => Piece::Matches {
+            Action::Join => Piece::Matches {
                 rows: part(matches, first),
                 first,
             },
-            Step::ColumnExtend { .. } | Step::ColumnClose { .. } => unreachable!(),
-            Step::Keep { .. } | Step::Differ { .. } | Step::NoLoop { .. } => unreachable!(),
+            _ => unreachable!(),
         }
     }
 

@@ -6,7 +6,8 @@ ghost use Rattle.gq_plan.specs.Conditions.{passes};
 ghost use Rattle.gq_plan.specs.Meaning.{holds};
 ghost use Rattle.gq_plan.specs.Rows.{as_read};
 ghost use Rattle.gq_plan.specs.Soundness.{IsSound};
-ghost use Rattle.gq_steps.specs.Levels.{known};
+ghost use Rattle.gq_steps.specs.Actions.{action_of};
+ghost use Rattle.gq_steps.specs.Levels.{known, step_at};
 ghost use Rattle.gq_steps.specs.Matches.{AreMatches};
 ghost use Rattle.gq_steps.specs.Moves.{builds_in, halves_in, run_of, steps_in};
 ghost use Rattle.gq_steps.specs.Moves.{IsRun, IsHeld, IsTried};
@@ -16,7 +17,9 @@ ghost use Rattle.gq_steps.specs.Follows.{IsSized, CanFollow};
 ghost use Rattle.gq_steps.specs.steps.Outcomes.{CanJoin, IsJoined, with_nodes, with_rels};
 ghost use Rattle.gq_steps.specs.steps.Outcomes.{differs_at, no_loop_at, tested};
 
+use crate::action::Action;
 use crate::follow::{Hop, hop_at};
+use crate::group_steps::GroupSteps;
 use gq_base::{Direction, List};
 use gq_expr::Assigned;
 use gq_filter::RowTest;
@@ -115,27 +118,21 @@ impl<'g> PlanRun<'g> {
         }
     }
 
-    /// The matches of the step at a depth, if it is a join: the rows of its build with the key that
-    /// stands. All its places are places among them, so they are looked up once for all.
-    pub fn matches(&self, depth: usize, row: &Assignment) -> &'g [u32]
+    /// The matches of a group, if it joins: the rows of its build with the key that stands. All its
+    /// places are places among them, so they are looked up once for all.
+    pub fn matches(&self, group: GroupSteps, row: &Assignment) -> &'g [u32]
         requires run { IsRun (run_of self.now) }
-        requires depth { depth < length (steps_in self.now) }
-        requires held { IsHeld (run_of self.now) row.now (known (run_of self.now) depth) }
-        ensures { AreMatches (run_of self.now) depth row.now result.now }
+        requires step { group.first < length (steps_in self.now) }
+        requires action { group.action ≡ action_of (step_at (run_of self.now) group.first) }
+        requires held { IsHeld (run_of self.now) row.now (known (run_of self.now) group.first) }
+        ensures { AreMatches (run_of self.now) group.first row.now result.now }
     {
-        match self.step(depth) {
-            Step::Join { .. } => match self.build_at(depth) {
+        match group.action {
+            Action::Join => match self.build_at(group.first) {
                 Some(build) => build.matches_of(row),
                 None => unreachable!(),
             },
-            Step::Scan { .. } => &[],
-            Step::Extend { .. } => &[],
-            Step::ColumnExtend { .. } => &[],
-            Step::Close { .. } => &[],
-            Step::ColumnClose { .. } => &[],
-            Step::Keep { .. } => &[],
-            Step::Differ { .. } => &[],
-            Step::NoLoop { .. } => &[],
+            _ => &[],
         }
     }
 

@@ -5,44 +5,37 @@ ghost use Rattle.gq_plan.specs.Rows.{node_table, rel_table};
 ghost use Rattle.gq_plan.specs.Soundness.{IsSound};
 ghost use Rattle.gq_base.specs.Valid.{row_count};
 ghost use Rattle.gq_store.specs.Neighbours.{neighbours};
+ghost use Rattle.gq_steps.specs.Actions.{action_of};
 ghost use Rattle.gq_steps.specs.Levels.{known, before, built_at, step_at};
 ghost use Rattle.gq_steps.specs.Matches.{AreMatches};
 ghost use Rattle.gq_steps.specs.Moves.{run_of, steps_in, IsRun, IsHeld};
 ghost use Rattle.gq_steps.specs.Follows.{CanFollow};
 ghost use Rattle.gq_steps.specs.Tries.{tries};
 
+use crate::action::Action;
 use crate::follow::degree;
-use crate::plan_run::{Follow, PlanRun, following};
-use gq_plan::{Assignment, Step};
+use crate::group_steps::GroupSteps;
+use crate::plan_run::{Follow, PlanRun};
+use gq_plan::Assignment;
 
 impl PlanRun<'_> {
-    /// How many places the step at a depth has, if it makes a group. A join's matches are told.
-    pub fn count(&self, depth: usize, matches: &[u32], row: &Assignment) -> u32
+    /// How many places the first step of a group has, which makes it. A join's matches are told.
+    pub fn count(&self, group: GroupSteps, matches: &[u32], row: &Assignment) -> u32
         requires run { IsRun (run_of self.now) }
-        requires depth { depth < length (steps_in self.now) }
-        requires makes { makes_group (step_at (run_of self.now) depth) ≡ true }
-        requires held { IsHeld (run_of self.now) row.now (known (run_of self.now) depth) }
-        requires matches { AreMatches (run_of self.now) depth row.now matches.now }
-        ensures { let c = run_of self.now in result ≡ length (tries c.graph c.typed (built_at c depth)
-            (step_at c depth) (before c row.now depth)) }
+        requires step { group.first < length (steps_in self.now) }
+        requires action { group.action ≡ action_of (step_at (run_of self.now) group.first) }
+        requires makes { makes_group (step_at (run_of self.now) group.first) ≡ true }
+        requires held { IsHeld (run_of self.now) row.now (known (run_of self.now) group.first) }
+        requires matches { AreMatches (run_of self.now) group.first row.now matches.now }
+        ensures { let c = run_of self.now in result ≡ length (tries c.graph c.typed
+            (built_at c group.first) (step_at c group.first) (before c row.now group.first)) }
     {
-        match self.step(depth) {
-            Step::Scan { node } => self.row_count(*node),
-            Step::Extend {
-                rel,
-                from,
-                to,
-                direction,
-            } => self.met(following(*rel, *from, *to, *direction), row),
-            Step::Close {
-                rel,
-                from,
-                to,
-                direction,
-            } => self.met(following(*rel, *from, *to, *direction), row),
-            Step::Join { .. } => matches.len() as u32,
-            Step::ColumnExtend { .. } | Step::ColumnClose { .. } => unreachable!(),
-            Step::Keep { .. } | Step::Differ { .. } | Step::NoLoop { .. } => unreachable!(),
+        match group.action {
+            Action::Scan(node) => self.row_count(node),
+            Action::List(follow) => self.met(follow, row),
+            Action::Close(follow) => self.met(follow, row),
+            Action::Join => matches.len() as u32,
+            _ => unreachable!(),
         }
     }
 

@@ -11,7 +11,6 @@ use Rattle.gq_plan.specs.Soundness.{has_number}
 use Rattle.gq_steps.specs.Levels.{Run, step_at}
 use Rattle.gq_steps.specs.Groups.{group_at}
 use Rattle.gq_homes.specs.declared.homes.Filling.{Filling}
-use Rattle.gq_homes.specs.declared.homes.Filling.TheVariants.{Kept}
 use Rattle.gq_homes.specs.declared.homes.Leading.{Leading}
 use Rattle.gq_steps.specs.declared.group_steps.GroupSteps.{GroupSteps}
 use Rattle.gq_homes.specs.Homes.{is_forward, leading_of, filling_of, kept_of, IsHoused, AreHomes}
