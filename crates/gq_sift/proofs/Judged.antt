@@ -1,34 +1,36 @@
 -- A group that makes something of a place makes it with the load number there, where rows or that number alone decide its tests.
-use Rattle.std.proofs.Common.{◌≡◌, ◌≢◌, inr, ℕ, suc, ◌+◌, ◌^◌, ◌<◌, ◌≤◌, ◌==◌, Bool, true, false, not, Some, None, length, refl, sym, ap, ◌∙◌, subst, arith}
+use Rattle.std.proofs.Common.{◌≡◌, ◌≢◌, inl, inr, ℕ, suc, ◌+◌, ◌^◌, ◌<◌, ◌≤◌, ◌==◌, Bool, true, false, not, Option, Some, None, length, refl, sym, ap, ◌∙◌, subst, arith}
 use Rattle.std.proofs.lemmas.Bool.{true≢false}
 use Rattle.std.specs.Prelude.{slice_get, slice_index}
 use Rattle.gq_base.specs.Directions.{opposite}
 use Rattle.gq_plan.specs.Conditions.{differs}
-use Rattle.gq_plan.specs.Halves.{close_half}
 use Rattle.gq_plan.specs.Meaning.{holds}
 use Rattle.gq_plan.specs.Plans.{Step, Scan, Extend, Close, Join, Keep, Differ, NoLoop, Single, Meet}
 use Rattle.gq_plan.specs.Rows.{as_read, rel_table}
-use Rattle.gq_base.specs.declared.direction.Direction.{Direction}
 use Rattle.gq_plan.specs.declared.assignment.Assignment.{Assignment}
-use Rattle.gq_plan.specs.declared.halves.Half.{Half}
-use Rattle.gq_plan.specs.declared.halves.Half.TheVariants.{Whole, First, Second}
 use Rattle.gq_store.specs.Neighbours.{near_rows, neighbours, numbers}
 use Rattle.gq_search.specs.Layouts.{has_one}
 use Rattle.gq_sift.specs.steps.Differing.{IsPairTest, other_of, pair_of}
 use Rattle.gq_steps.specs.Keeps.{IsRange, IsTriedAt}
 use Rattle.gq_sift.specs.steps.Judged.{IsJudged}
+use Rattle.gq_steps.specs.Actions.{action_of}
 use Rattle.gq_steps.specs.Levels.{Run, step_at, known}
 use Rattle.gq_sift.specs.steps.Loops.{IsLoopTest, loop_of}
-use Rattle.gq_steps.specs.Moves.{IsRun, IsHeld, IsTried}
+use Rattle.gq_steps.specs.Moves.{run_of, IsRun, IsHeld, IsTried}
+use Rattle.gq_steps.specs.steps.Hops.{IsHop}
 use Rattle.gq_steps.specs.steps.Outcomes.{differs_at, no_loop_at, passes_at, tested, with_number, with_row}
 use Rattle.gq_steps.specs.Follows.{CanFollow}
-use Rattle.gq_sift.specs.steps.RowTests.{IsRowTest, ReadsRows}
+use Rattle.gq_sift.specs.steps.RowTests.{Extends, IsRowTest, Leads}
 use Rattle.gq_sift.specs.Tested.{test_of}
 use Rattle.gq_steps.specs.declared.follow.Hop.{Hop}
+use Rattle.gq_steps.specs.declared.action.Action.{Action}
+use Rattle.gq_steps.specs.declared.action.Action.TheVariants as act
 use Rattle.gq_steps.specs.declared.group_steps.GroupSteps.{GroupSteps}
 use Rattle.gq_steps.specs.declared.plan_run.Follow.{Follow}
+use Rattle.gq_steps.specs.declared.plan_run.PlanRun.{PlanRun}
 use Rattle.gq_steps.specs.declared.plan_run.Tried.TheVariants.{Made}
 use Rattle.gq_sift.proofs.Apart.{differs_by}
+use Rattle.gq_steps.proofs.Acting.{acts}
 use Rattle.gq_steps.proofs.Going.{IsGoing, begins, ends, made_first, tried_made, tried_missed}
 use Rattle.gq_steps.proofs.Hopping.{hop_there}
 use Rattle.gq_steps.proofs.Stepping.{follows}
@@ -74,21 +76,32 @@ no_loop_of (Differ p) i is = cc
 no_loop_of (Single x from to way) i is = cc
 no_loop_of (Meet x from to way) i is = cc
 
--- no half of a column close is a test that is asked for
-pub no_test : (h : Half) (x from to : ℕ) (way : Direction) → test_of (close_half h x from to way) ≡ None
-no_test Whole x from to way = refl
-no_test First x from to way = refl
-no_test Second x from to way = refl
+-- a step that does another thing asks for none
+pub no_test : (s : Step) → ((i : ℕ) → action_of s ≡ act.Test i → ⊥) → test_of s ≡ None
+no_test s none = go (test_of s) refl
+  where
+    go : (o : Option ℕ) → test_of s ≡ o → test_of s ≡ None
+    go None is = is
+    go (Some i) is = absurd (none i (ap action_of (keep_of s i is)))
 
-pub no_pair : (h : Half) (x from to : ℕ) (way : Direction) → pair_of (close_half h x from to way) ≡ None
-no_pair Whole x from to way = refl
-no_pair First x from to way = refl
-no_pair Second x from to way = refl
+pub no_pair : (s : Step) → ((i : ℕ) → action_of s ≡ act.Differ i → ⊥) → pair_of s ≡ None
+no_pair s none = go (pair_of s) refl
+  where
+    go : (o : Option ℕ) → pair_of s ≡ o → pair_of s ≡ None
+    go None is = is
+    go (Some i) is = absurd (none i (ap action_of (differ_of s i is)))
 
-pub no_loop : (h : Half) (x from to : ℕ) (way : Direction) → loop_of (close_half h x from to way) ≡ None
-no_loop Whole x from to way = refl
-no_loop First x from to way = refl
-no_loop Second x from to way = refl
+pub no_loop : (s : Step) → ((i : ℕ) → action_of s ≡ act.NoLoop i → ⊥) → loop_of s ≡ None
+no_loop s none = go (loop_of s) refl
+  where
+    go : (o : Option ℕ) → loop_of s ≡ o → loop_of s ≡ None
+    go None is = is
+    go (Some i) is = absurd (none i (ap action_of (no_loop_of s i is)))
+
+-- the step at a depth follows a relationship so, where it is told what it does
+pub extends_by : (k : PlanRun) (d : ℕ) (a : Action) (f : Follow) → a ≡ action_of (step_at (run_of k) d) → Leads a f → Extends (run_of k) d f
+extends_by k d a f is (inl list) = (false, acts k d a (act.List f) is list)
+extends_by k d a f is (inr column) = (true, acts k d a (act.Column f) is column)
 
 -- with the load number of the relationship at a place, the steps of a group up to one make something of it
 pub record IsGoingBy (c : Run) (group : GroupSteps) (place : ℕ) (old : Assignment) (f : Follow) (d : ℕ) (row : Assignment) : Type 0 where
@@ -96,36 +109,39 @@ pub record IsGoingBy (c : Run) (group : GroupSteps) (place : ℕ) (old : Assignm
   pub numbered : slice_get (numbers c.graph (rel_table c.typed f.rel) f.direction (slice_index old.nodes f.from)) place ≡ Some number
   pub going : IsGoing c group place old d (with_number f.rel number row)
 
-module _ (c : Run) (run : IsRun c) (group : GroupSteps) (range : IsRange c group) (place : ℕ) (old : Assignment) (held : IsHeld c old (known c group.first)) (f : Follow) (reads : ReadsRows c group f) where
+module _ (c : Run) (run : IsRun c) (group : GroupSteps) (range : IsRange c group) (place : ℕ) (old : Assignment) (held : IsHeld c old (known c group.first)) (f : Follow) (ext : Extends c group.first f) where
   first_low : group.first < length c.steps
   first_low = let some = range.some in let inside = range.inside in omega arith
 
   pub can_follow : CanFollow c.graph c.typed old f
-  can_follow = extend_can c run group.first first_low old held reads.extends.0 f.rel f.from f.to f.direction reads.extends.1
+  can_follow = extend_can c run group.first first_low old held ext.0 f.rel f.from f.to f.direction ext.1
 
   new_rel : (known c group.first).rels f.rel ≡ false
-  new_rel = (extend_parts c run group.first first_low old held reads.extends.0 f.rel f.from f.to f.direction reads.extends.1).0
+  new_rel = (extend_parts c run group.first first_low old held ext.0 f.rel f.from f.to f.direction ext.1).0
 
   pub apart : f.from ≢ f.to
   apart e =
-      let parts = extend_parts c run group.first first_low old held reads.extends.0 f.rel f.from f.to f.direction reads.extends.1 in
+      let parts = extend_parts c run group.first first_low old held ext.0 f.rel f.from f.to f.direction ext.1 in
       true≢false (sym parts.1 ∙ ap (known c group.first).nodes e ∙ parts.2)
+
+  pub hop_going : (h : Hop) → IsHop c.graph (rel_table c.typed f.rel) f.direction (slice_index old.nodes f.from) place h → IsGoingBy c group place old f (group.first + 1) (with_row f.to h.row old)
+  hop_going h is =
+      let exact : Assignment = with_number f.rel h.number (with_row f.to h.row old) in
+      let made = extend_tried c run group.first first_low old held ext.0 f.rel f.from f.to f.direction ext.1 place exact Made (h, is, refl) in
+      let next : suc group.first ≡ group.first + 1 = omega arith in
+      record {
+        number = h.number;
+        numbered = is.number;
+        going = subst (λ d. IsGoing c group place old d exact) next (made_first c group range place old group.first old exact (begins c group range place old held) refl made);
+      }
 
   pub first_going : (r : ℕ) → slice_get (neighbours c.graph (rel_table c.typed f.rel) f.direction (slice_index old.nodes f.from)) place ≡ Some r
       → r < near_rows c.graph (rel_table c.typed f.rel) (opposite f.direction) → length (neighbours c.graph (rel_table c.typed f.rel) f.direction (slice_index old.nodes f.from)) < 2 ^ 32
       → IsGoingBy c group place old f (group.first + 1) (with_row f.to r old)
   first_going r at inside few =
-      let follow = follows c run reads.extends.0 f.rel f.from f.to f.direction (extend_goes c run group.first first_low old held reads.extends.0 f.rel f.from f.to f.direction reads.extends.1) in
+      let follow = follows c run ext.0 f.rel f.from f.to f.direction (extend_goes c run group.first first_low old held ext.0 f.rel f.from f.to f.direction ext.1) in
       let hop = hop_there c.graph (rel_table c.typed f.rel) follow.table follow.table_is f.direction (slice_index old.nodes f.from) place r at inside few in
-      let h : Hop = record { number = hop.0; row = r } in
-      let exact : Assignment = with_number f.rel hop.0 (with_row f.to r old) in
-      let made = extend_tried c run group.first first_low old held reads.extends.0 f.rel f.from f.to f.direction reads.extends.1 place exact Made (h, hop.1, refl) in
-      let next : suc group.first ≡ group.first + 1 = omega arith in
-      record {
-        number = hop.0;
-        numbered = hop.1.number;
-        going = subst (λ d. IsGoing c group place old d exact) next (made_first c group range place old group.first old exact (begins c group range place old held) refl made);
-      }
+      hop_going (record { number = hop.0; row = r }) hop.1
 
   module _ (d : ℕ) (row : Assignment) (g : IsGoingBy c group place old f d row) (above : group.first < d) (below : d < group.end) where
     abbrev exact : Assignment

@@ -5,7 +5,9 @@ pub mod Judged
 pub mod Kept
 pub mod Listed
 pub mod Matching
+pub mod Reached
 pub mod Recalled
+pub mod Refused
 pub mod Scanned
 pub mod Sifting
 pub mod Unlooped

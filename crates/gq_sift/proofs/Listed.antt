@@ -58,7 +58,7 @@ module _ (c : Run) (run : IsRun c) (group : GroupSteps) (range : IsRange c group
 
   pub can_list : CanList c.graph c.typed old f
   can_list = record {
-    follow = can_follow c run group range 0 old held f filters.reads;
+    follow = can_follow c run group range 0 old held f filters.reads.extends;
     listed = listed_is c f.from f.to f.rel f.direction (extend_goes c run group.first depth old held false f.rel f.from f.to f.direction is);
   }
 
@@ -142,28 +142,28 @@ module _ (c : Run) (run : IsRun c) (group : GroupSteps) (range : IsRange c group
     told_at d = rows_keep c f old place (step_at c d) && numbers_keep c f old place (step_at c d)
 
     first_listed : Going (group.first + 1)
-    first_listed = first_going c run group range place old held f filters.reads (far_row c f old place) (slice_get-get_or list place 0 there) (rows place 0 there) few
+    first_listed = first_going c run group range place old held f filters.reads.extends (far_row c f old place) (slice_get-get_or list place 0 there) (rows place 0 there) few
 
     tried_as : (d : ℕ) (above : group.first < d) (low : d < group.end) (g : Going d) (told : Bool) → told_at d ≡ told → IsTried c d 0 (with_number f.rel g.number put) (with_number f.rel g.number put) (tested 0 told)
     tried_as d above low g told is = elim (filters.reads.tests d above low) [
       | inl test ↦
           (let keep = keep_of (step_at c d) test.test test.is in
           let verdict : told_at d ≡ passes_at c.graph c.typed put test.test = ap (λ s. rows_keep c f old place s && numbers_keep c f old place s) keep ∙ and-true (passes_at c.graph c.typed put test.test) in
-          row_tried c run group range place old held f filters.reads d put g above low test told (sym verdict ∙ is))
+          row_tried c run group range place old held f filters.reads.extends d put g above low test told (sym verdict ∙ is))
       | inr (inr test) ↦
           (let loop = no_loop_of (step_at c d) f.rel test.is in
           let far : Bool = not (far_row c f old place == slice_index old.nodes f.from) in
           let verdict : told_at d ≡ far = ap (λ s. rows_keep c f old place s && numbers_keep c f old place s) loop ∙ and-true far in
           let ends : not (slice_index put.nodes f.to == slice_index put.nodes f.from) ≡ far =
-          ap₂ (λ a b. not (a == b)) (get_or-set_same old.nodes f.to (far_row c f old place) 0 listing_node) (get_or-set_other old.nodes f.to f.from (far_row c f old place) 0 (apart c run group range place old held f filters.reads)) in
-          loop_tried c run group range place old held f filters.reads d put g above low test told (ends ∙ sym verdict ∙ is))
+          ap₂ (λ a b. not (a == b)) (get_or-set_same old.nodes f.to (far_row c f old place) 0 listing_node) (get_or-set_other old.nodes f.to f.from (far_row c f old place) 0 (apart c run group range place old held f filters.reads.extends)) in
+          loop_tried c run group range place old held f filters.reads.extends d put g above low test told (ends ∙ sym verdict ∙ is))
       | inr (inl test) ↦
           (let other : ℕ = slice_index old.rels (other_of f.rel test.pair) in
           let differ = differ_of (step_at c d) test.number test.is in
           let verdict : told_at d ≡ not (leads_to list_numbers place other) =
           ap (λ s. rows_keep c f old place s && numbers_keep c f old place s) differ
           ∙ ap (holds (λ pair. not (leads_to list_numbers place (slice_index old.rels (other_of f.rel pair))))) test.there in
-          pair_tried c run group range place old held f filters.reads d put g above low test told (ap (λ o. not (is_row other o)) (sym g.numbered) ∙ sym verdict ∙ is))
+          pair_tried c run group range place old held f filters.reads.extends d put g above low test told (ap (λ o. not (is_row other o)) (sym g.numbered) ∙ sym verdict ∙ is))
     ]
 
     abbrev All_told : ℕ → Type 0
@@ -183,14 +183,14 @@ module _ (c : Run) (run : IsRun c) (group : GroupSteps) (range : IsRange c group
 
         by_told : (b : Bool) → told_at d ≡ b → Decided
         by_told true is =
-            further (next_going c run group range place old held f filters.reads d put g above low (tried_as d above low g true is)) (λ e over under. next is e over under (cases_lt e d))
+            further (next_going c run group range place old held f filters.reads.extends d put g above low (tried_as d above low g true is)) (λ e over under. next is e over under (cases_lt e d))
         by_told false is =
-            inr ((d, above, low, is), sym (judged c group place old false _ (next_missed c run group range place old held f filters.reads d put g above low (tried_as d above low g false is))).answer)
+            inr ((d, above, low, is), sym (judged c group place old false _ (next_missed c run group range place old held f filters.reads.extends d put g above low (tried_as d above low g false is))).answer)
 
     decide : (n d : ℕ) → d + n ≡ group.end → group.first < d → Going d → All_told d → Decided
     decide zero d all above g told =
         let end : d ≡ group.end = omega (arith, all) in
-        inl (subst All_told end told, sym (judged c group place old true _ (all_going c run group range place old held f filters.reads d put g (omega (arith, all)))).answer)
+        inl (subst All_told end told, sym (judged c group place old true _ (all_going c run group range place old held f filters.reads.extends d put g (omega (arith, all)))).answer)
     decide (suc n) d all above g told = decide_at d above (omega (arith, all)) g told (decide n (d + 1) (omega (arith, all)) (omega (arith, above)))
 
     pub decided : Decided

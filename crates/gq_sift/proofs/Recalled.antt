@@ -55,7 +55,7 @@ set_there old new to r v long same = go (cases_lt v (length old)) (cases_eq v to
 module _ (c : Run) (run : IsRun c) (group : GroupSteps) (range : IsRange c group) (f : Follow) (filters : FiltersList c group f) (reads : Known) (tests : TestsRead c group reads) (from_read : reads.nodes f.from ≡ true) (no_rels : (x : ℕ) → reads.rels x ≡ false)
     (old new : Assignment) (held : IsHeld c old (known c group.first)) (again : IsHeld c new (known c group.first)) (alike : AreAlikeBeside f.to reads.nodes old.nodes new.nodes) where
   from_same : slice_index old.nodes f.from ≡ slice_index new.nodes f.from
-  from_same = let can = can_follow c run group range 0 old held f filters.reads in alike f.from (omega (arith, can.from, held.node_count)) from_read (apart c run group range 0 old held f filters.reads)
+  from_same = let can = can_follow c run group range 0 old held f filters.reads.extends in alike f.from (omega (arith, can.from, held.node_count)) from_read (apart c run group range 0 old held f filters.reads.extends)
 
   row_same : (place : ℕ) → far_row c f old place ≡ far_row c f new place
   row_same place = ap (λ r. slice_index (neighbours c.graph (rel_table c.typed f.rel) f.direction r) place) from_same

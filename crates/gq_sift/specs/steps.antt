@@ -1,7 +1,9 @@
 pub mod Candidates
+pub mod Chains
 pub mod Differing
 pub mod Filters
 pub mod Judged
 pub mod Loops
 pub mod Numbers
+pub mod Refused
 pub mod RowTests

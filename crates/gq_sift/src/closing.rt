@@ -3,39 +3,35 @@
 ghost use Rattle.std.specs.Prelude.{◌≡◌, ◌+◌, ◌<◌, ◌≤◌, ◌^◌, ◌&&◌, ℕ, length, nat_lt};
 ghost use Rattle.gq_bits.specs.Places.{is_marked};
 ghost use Rattle.gq_sift.specs.steps.Candidates.{AreCandidates, leads_to};
-ghost use Rattle.gq_steps.specs.Levels.{known};
+ghost use Rattle.gq_steps.specs.Actions.{action_of};
+ghost use Rattle.gq_steps.specs.Levels.{known, step_at};
 ghost use Rattle.gq_steps.specs.Moves.{run_of, steps_in, IsRun, IsHeld};
 
 use gq_bits::{Marks, VECTOR};
 use gq_lanes::keep_equal_id;
-use gq_plan::{Assignment, Step};
-use gq_steps::{PlanRun, following};
+use gq_plan::Assignment;
+use gq_steps::{Action, GroupSteps, PlanRun};
 
-/// Of so many places of the list of the step at a depth, from one on, those at which it can make
-/// something.
+/// Of so many places of a group's list, from one on, those at which its first step can make something.
 pub(crate) fn candidates(
     plan_run: &PlanRun<'_>,
-    depth: usize,
+    group: GroupSteps,
     first: u32,
     count: u32,
     row: &Assignment,
 ) -> Marks
     requires run { IsRun (run_of plan_run.now) }
-    requires depth { depth < length (steps_in plan_run.now) }
-    requires held { IsHeld (run_of plan_run.now) row.now (known (run_of plan_run.now) depth) }
+    requires step { group.first < length (steps_in plan_run.now) }
+    requires action { group.action ≡ action_of (step_at (run_of plan_run.now) group.first) }
+    requires held { IsHeld (run_of plan_run.now) row.now (known (run_of plan_run.now) group.first) }
     requires count { count ≤ VECTOR }
     requires fits { first + count < 2 ^ 32 }
-    ensures { AreCandidates (run_of plan_run.now) depth first count row.now result }
+    ensures { AreCandidates (run_of plan_run.now) group.first first count row.now result }
 {
-    match plan_run.step(depth) {
-        Step::Close {
-            rel,
-            from,
-            to,
-            direction,
-        } => {
-            let list = plan_run.list(following(*rel, *from, *to, *direction), row);
-            closing(list, first, count, row.nodes.as_slice()[*to as usize])
+    match group.action {
+        Action::Close(follow) => {
+            let list = plan_run.list(follow, row);
+            closing(list, first, count, row.nodes.as_slice()[follow.to as usize])
         }
         _ => Marks::first(count),
     }

@@ -12,24 +12,17 @@ ghost use Rattle.gq_steps.specs.Follows.{CanFollow};
 
 use crate::finding::{ListPart, place_of_number};
 use gq_bits::{Marks, VECTOR};
-use gq_plan::{Assignment, RelPair, Step};
-use gq_steps::{Follow, PlanRun};
+use gq_plan::{Assignment, RelPair};
+use gq_steps::{Action, Follow, PlanRun};
 
 /// The pair that the step at a depth asks to differ, if it asks for one.
 pub(crate) fn pair_at(plan_run: &PlanRun<'_>, depth: usize) -> Option<u32>
     requires { depth < length (steps_in plan_run.now) }
     ensures { result ≡ pair_of (step_at (run_of plan_run.now) depth) }
 {
-    match plan_run.step(depth) {
-        Step::Differ { pair } => Some(*pair),
-        Step::Scan { .. } => None,
-        Step::Extend { .. } => None,
-        Step::ColumnExtend { .. } => None,
-        Step::Close { .. } => None,
-        Step::ColumnClose { .. } => None,
-        Step::Join { .. } => None,
-        Step::Keep { .. } => None,
-        Step::NoLoop { .. } => None,
+    match plan_run.action(depth) {
+        Action::Differ(pair) => Some(pair),
+        _ => None,
     }
 }
 

@@ -4,7 +4,7 @@ ghost use Rattle.gq_base.specs.Valid.{row_count};
 ghost use Rattle.gq_bits.specs.Places.{is_marked};
 ghost use Rattle.gq_filter.specs.Rows.{count_in, row_in};
 ghost use Rattle.gq_plan.specs.Rows.{node_table};
-ghost use Rattle.gq_sift.specs.steps.Filters.{Filters, Scans};
+ghost use Rattle.gq_sift.specs.steps.Filters.{Filters};
 ghost use Rattle.gq_steps.specs.Keeps.{IsRange, IsSifted};
 ghost use Rattle.gq_steps.specs.Levels.{known, step_at};
 ghost use Rattle.gq_steps.specs.Moves.{run_of, steps_in, IsRun, IsHeld};
@@ -14,8 +14,8 @@ ghost use Rattle.gq_sift.specs.Tested.{test_of};
 use crate::judging::test_at;
 use gq_bits::{Marks, VECTOR};
 use gq_filter::Rows;
-use gq_plan::{Assignment, Step};
-use gq_steps::{GroupSteps, PlanRun};
+use gq_plan::Assignment;
+use gq_steps::{Action, GroupSteps, PlanRun};
 
 /// The node variable that a group scans, where its other steps are conditions.
 pub(crate) fn filters(plan_run: &PlanRun<'_>, group: GroupSteps) -> Option<u32>
@@ -23,20 +23,19 @@ pub(crate) fn filters(plan_run: &PlanRun<'_>, group: GroupSteps) -> Option<u32>
     requires steps { IsRange (run_of plan_run.now) group }
     ensures { IfSome result (Filters (run_of plan_run.now) group) }
 {
-    let node = scans(plan_run, group.first)?;
+    let node = scanned(group.action)?;
     for depth in group.first + 1..group.end {
         let _test = test_at(plan_run, depth)?;
     }
     Some(node)
 }
 
-// The node variable that the step at a depth scans, if it does.
-fn scans(plan_run: &PlanRun<'_>, depth: usize) -> Option<u32>
-    requires { depth < length (steps_in plan_run.now) }
-    ensures { IfSome result (Scans (run_of plan_run.now) depth) }
+/// The node variable that is scanned, if one is.
+pub(crate) fn scanned(action: Action) -> Option<u32>
+    ensures { IfSome result (λ node. action ≡ Action.Scan node) }
 {
-    match plan_run.step(depth) {
-        Step::Scan { node } => Some(*node),
+    match action {
+        Action::Scan(node) => Some(node),
         _ => None,
     }
 }

@@ -1,24 +1,30 @@
 //! Groups that follow relationships, and whose tests rows alone decide, or those relationships do.
 ghost use Rattle.std.specs.Prelude.{◌≡◌, ◌<◌, length, IfSome, IsTrue};
 ghost use Rattle.gq_sift.specs.steps.Filters.{IsWithin};
+ghost use Rattle.gq_steps.specs.Actions.{action_of};
 ghost use Rattle.gq_steps.specs.Levels.{step_at};
 ghost use Rattle.gq_steps.specs.Moves.{run_of, steps_in, IsRun};
-ghost use Rattle.gq_sift.specs.steps.RowTests.{Extends, IsListTest, IsRowTest, ReadsRows};
+ghost use Rattle.gq_sift.specs.steps.RowTests.{IsListTest, IsRowTest, Leads, ReadsRows};
 ghost use Rattle.gq_sift.specs.Tested.{test_of};
 
 use crate::differing::is_pair_test;
 use crate::looping::is_loop_test;
-use gq_plan::Step;
-use gq_steps::{Follow, GroupSteps, PlanRun, following};
+use gq_steps::{Action, Follow, GroupSteps, PlanRun};
 
 /// How a group follows a relationship to a node that was not bound, where rows alone decide its
-/// tests, or they ask that this relationship differs from another one or is no loop.
-pub(crate) fn reads_rows(plan_run: &PlanRun<'_>, group: GroupSteps) -> Option<Follow>
+/// tests, or they ask that this relationship differs from another one or is no loop. It is told what
+/// the group's first step does.
+pub(crate) fn reads_rows(
+    plan_run: &PlanRun<'_>,
+    group: GroupSteps,
+    action: Action,
+) -> Option<Follow>
     requires run { IsRun (run_of plan_run.now) }
     requires steps { IsWithin (run_of plan_run.now) group }
+    requires action { action ≡ action_of (step_at (run_of plan_run.now) group.first) }
     ensures { IfSome result (ReadsRows (run_of plan_run.now) group) }
 {
-    let follow = extends(plan_run, group.first)?;
+    let follow = extended(action)?;
     for depth in group.first + 1..group.end {
         if !is_list_test(plan_run, depth, follow) {
             return None;
@@ -27,24 +33,13 @@ pub(crate) fn reads_rows(plan_run: &PlanRun<'_>, group: GroupSteps) -> Option<Fo
     Some(follow)
 }
 
-// How the step at a depth follows a relationship to a node that was not bound, if it does.
-fn extends(plan_run: &PlanRun<'_>, depth: usize) -> Option<Follow>
-    requires { depth < length (steps_in plan_run.now) }
-    ensures { IfSome result (Extends (run_of plan_run.now) depth) }
+/// How a relationship is followed to a node that was not bound, if one is.
+pub(crate) fn extended(action: Action) -> Option<Follow>
+    ensures { IfSome result (Leads action) }
 {
-    match plan_run.step(depth) {
-        Step::Extend {
-            rel,
-            from,
-            to,
-            direction,
-        } => Some(following(*rel, *from, *to, *direction)),
-        Step::ColumnExtend {
-            rel,
-            from,
-            to,
-            direction,
-        } => Some(following(*rel, *from, *to, *direction)),
+    match action {
+        Action::List(follow) => Some(follow),
+        Action::Column(follow) => Some(follow),
         _ => None,
     }
 }
@@ -61,8 +56,8 @@ fn is_list_test(plan_run: &PlanRun<'_>, depth: usize, follow: Follow) -> bool
         || is_loop_test(plan_run, depth, follow)
 }
 
-// Whether the step at a depth is a test that rows alone decide.
-fn is_row_test(plan_run: &PlanRun<'_>, depth: usize) -> bool
+/// Whether the step at a depth is a test that rows alone decide.
+pub(crate) fn is_row_test(plan_run: &PlanRun<'_>, depth: usize) -> bool
     requires run { IsRun (run_of plan_run.now) }
     requires depth { depth < length (steps_in plan_run.now) }
     ensures { IsTrue result → IsRowTest (run_of plan_run.now) depth }
@@ -81,15 +76,8 @@ pub(crate) fn test_at(plan_run: &PlanRun<'_>, depth: usize) -> Option<u32>
     requires { depth < length (steps_in plan_run.now) }
     ensures { result ≡ test_of (step_at (run_of plan_run.now) depth) }
 {
-    match plan_run.step(depth) {
-        Step::Keep { test } => Some(*test),
-        Step::Scan { .. } => None,
-        Step::Extend { .. } => None,
-        Step::ColumnExtend { .. } => None,
-        Step::Close { .. } => None,
-        Step::ColumnClose { .. } => None,
-        Step::Join { .. } => None,
-        Step::Differ { .. } => None,
-        Step::NoLoop { .. } => None,
+    match plan_run.action(depth) {
+        Action::Test(test) => Some(test),
+        _ => None,
     }
 }

@@ -7,10 +7,11 @@ ghost use Rattle.gq_steps.specs.Matches.{AreMatches};
 ghost use Rattle.gq_steps.specs.Moves.{run_of, IsRun, IsHeld};
 ghost use Rattle.gq_steps.specs.Tries.{tries};
 
+use crate::chain::{chain_of, judge_place};
 use crate::closing::candidates;
 use crate::filtering::{filter, filters};
 use crate::listing::{filter_list, filters_list};
-use crate::places::keep_place;
+use crate::refusing::refuse;
 use gq_bits::{Marks, VECTOR};
 use gq_plan::Assignment;
 use gq_steps::{GroupSteps, PlanRun};
@@ -39,7 +40,7 @@ pub fn sift(
 {
     match filters(plan_run, group) {
         Some(node) => filter(plan_run, group, node, first, count, row, marks),
-        None => match filters_list(plan_run, group) {
+        None => match filters_list(plan_run, group, group.action) {
             Some(follow) => filter_list(plan_run, group, follow, first, count, row, marks),
             None => sift_each(plan_run, group, matches, first, count, row, marks),
         },
@@ -62,9 +63,12 @@ fn sift_each(
     requires matches { AreMatches (run_of plan_run.now) group.first row.old matches.now }
     requires count { count ≤ VECTOR }
     requires fits { first + count < 2 ^ 32 }
+    requires inside { let c = run_of plan_run.now in first + count ≤ length (tries c.graph c.typed
+        (built_at c group.first) (step_at c group.first) (before c row.old group.first)) }
     ensures { IsSifted (run_of plan_run.now) group first count row.old row.new marks.new }
 {
-    *marks = candidates(plan_run, group.first, first, count, row);
+    *marks = candidates(plan_run, group, first, count, row);
+    refuse(plan_run, group, first, count, row, marks);
     sift_among(plan_run, group, matches, first, count, row, marks);
 }
 
@@ -88,9 +92,10 @@ pub fn sift_among(
     requires among { IsAmong (run_of plan_run.now) group first count row.old marks.old }
     ensures { IsSifted (run_of plan_run.now) group first count row.old row.new marks.new }
 {
+    let chain = chain_of(plan_run, group);
     let mut place = 0;
     'places: while let Some(offset) = marks.next_from(place) {
-        if !keep_place(plan_run, group, matches, first + offset, row) {
+        if !judge_place(plan_run, group, chain, matches, first + offset, row) {
             marks.set(offset, false);
         }
         place = offset + 1;

@@ -3,6 +3,7 @@
 //! stands on the steps of `gq_steps` and the marks of `gq_bits`.
 #![tactic(auto)]
 
+mod chain;
 mod closing;
 mod differing;
 mod filtering;
@@ -13,6 +14,7 @@ mod listing;
 mod looping;
 mod places;
 mod reading;
+mod refusing;
 mod remembered;
 
 pub use keeping::{sift, sift_among};

@@ -8,9 +8,10 @@ ghost use Rattle.gq_plan.specs.declared.typed.RelPair.{RelPair};
 ghost use Rattle.gq_store.specs.Neighbours.{neighbours, numbers};
 ghost use Rattle.gq_sift.specs.steps.Candidates.{leads_to};
 ghost use Rattle.gq_sift.specs.steps.Differing.{other_of, pair_of};
-ghost use Rattle.gq_sift.specs.steps.Filters.{FiltersList, IsWithin, is_listed_step};
+ghost use Rattle.gq_sift.specs.steps.Filters.{FiltersList, IsWithin};
 ghost use Rattle.gq_sift.specs.Tested.{IsTested};
 ghost use Rattle.gq_steps.specs.Keeps.{IsRange, IsSifted};
+ghost use Rattle.gq_steps.specs.Actions.{action_of};
 ghost use Rattle.gq_steps.specs.Levels.{known, step_at};
 ghost use Rattle.gq_sift.specs.steps.Loops.{loop_of};
 ghost use Rattle.gq_steps.specs.Moves.{run_of, steps_in, IsRun, IsHeld};
@@ -24,31 +25,31 @@ use crate::judging::reads_rows;
 use crate::looping::{drop_row, loop_at};
 use gq_bits::{Marks, VECTOR};
 use gq_filter::Rows;
-use gq_plan::{Assignment, Step};
-use gq_steps::{Follow, GroupSteps, PlanRun};
+use gq_plan::Assignment;
+use gq_steps::{Action, Follow, GroupSteps, PlanRun};
 
 /// How a group follows relationships in a list to a node that was not bound, where rows alone
 /// decide its tests.
-pub(crate) fn filters_list(plan_run: &PlanRun<'_>, group: GroupSteps) -> Option<Follow>
+pub(crate) fn filters_list(
+    plan_run: &PlanRun<'_>,
+    group: GroupSteps,
+    action: Action,
+) -> Option<Follow>
     requires run { IsRun (run_of plan_run.now) }
     requires steps { IsWithin (run_of plan_run.now) group }
+    requires action { action ≡ action_of (step_at (run_of plan_run.now) group.first) }
     ensures { IfSome result (FiltersList (run_of plan_run.now) group) }
 {
-    let follow = reads_rows(plan_run, group)?;
-    if is_listed(plan_run, group.first) {
-        Some(follow)
-    } else {
-        None
-    }
+    let follow = reads_rows(plan_run, group, action)?;
+    if is_list(action) { Some(follow) } else { None }
 }
 
-// Whether the step at a depth follows relationships in a list to a node that was not bound.
-fn is_listed(plan_run: &PlanRun<'_>, depth: usize) -> bool
-    requires { depth < length (steps_in plan_run.now) }
-    ensures { IsTrue result → is_listed_step (step_at (run_of plan_run.now) depth) ≡ true }
+// Whether relationships are followed in a list to a node that was not bound.
+fn is_list(action: Action) -> bool
+    ensures { IsTrue result → (follow : Follow) × (action ≡ Action.List follow) }
 {
-    match plan_run.step(depth) {
-        Step::Extend { .. } => true,
+    match action {
+        Action::List(_follow) => true,
         _ => false,
     }
 }

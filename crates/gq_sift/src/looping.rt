@@ -9,24 +9,17 @@ ghost use Rattle.gq_steps.specs.Moves.{run_of, steps_in};
 
 use gq_bits::{Marks, VECTOR};
 use gq_lanes::keep_equal_id;
-use gq_plan::{Step, TypedRel};
-use gq_steps::{Follow, PlanRun};
+use gq_plan::TypedRel;
+use gq_steps::{Action, Follow, PlanRun};
 
 /// The relationship variable that the step at a depth asks to be no loop, if it asks for one.
 pub(crate) fn loop_at(plan_run: &PlanRun<'_>, depth: usize) -> Option<u32>
     requires { depth < length (steps_in plan_run.now) }
     ensures { result ≡ loop_of (step_at (run_of plan_run.now) depth) }
 {
-    match plan_run.step(depth) {
-        Step::NoLoop { rel } => Some(*rel),
-        Step::Scan { .. } => None,
-        Step::Extend { .. } => None,
-        Step::ColumnExtend { .. } => None,
-        Step::Close { .. } => None,
-        Step::ColumnClose { .. } => None,
-        Step::Join { .. } => None,
-        Step::Keep { .. } => None,
-        Step::Differ { .. } => None,
+    match plan_run.action(depth) {
+        Action::NoLoop(rel) => Some(rel),
+        _ => None,
     }
 }
 

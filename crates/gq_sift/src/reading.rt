@@ -105,8 +105,7 @@ fn binds_one(plan_run: &PlanRun<'_>, depth: usize, reads: Known) -> bool {
             None => true,
             Some(build) => joins_one(build, keys.as_slice(), reads),
         },
-        Step::Close { .. } | Step::ColumnClose { .. } => false,
-        Step::Keep { .. } | Step::Differ { .. } | Step::NoLoop { .. } => false,
+        _ => false,
     }
 }
 

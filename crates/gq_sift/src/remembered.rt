@@ -65,7 +65,8 @@ impl Remembered {
         if group.first >= group.end || group.end > plan_run.steps.len() {
             return None;
         }
-        let follow = filters_list(plan_run, group)?;
+        let action = plan_run.action(group.first);
+        let follow = filters_list(plan_run, group, action)?;
         let reads = read_by(plan_run, group, follow);
         if !has_test(plan_run, group) || binds_some(plan_run, before, reads) {
             return None;
@@ -235,7 +236,7 @@ pub fn sift_remembered(
     ensures same { plan_run.new ≡ plan_run.old }
 {
     let first = piece * VECTOR;
-    match filters_list(plan_run, group) {
+    match filters_list(plan_run, group, group.action) {
         None => sift(plan_run, group, matches, first, count, row, marks),
         Some(follow) => {
             recall(

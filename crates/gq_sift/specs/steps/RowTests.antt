@@ -7,12 +7,18 @@ use Rattle.gq_sift.specs.Tested.{test_of}
 use Rattle.gq_steps.specs.Levels.{Run, step_at}
 use Rattle.gq_sift.specs.steps.Loops.{IsLoopTest}
 use Rattle.gq_steps.specs.steps.Outcomes.{passes_at}
+use Rattle.gq_steps.specs.declared.action.Action.{Action}
+use Rattle.gq_steps.specs.declared.action.Action.TheVariants as act
 use Rattle.gq_steps.specs.declared.group_steps.GroupSteps.{GroupSteps}
 use Rattle.gq_steps.specs.declared.plan_run.Follow.{Follow}
 
 -- the step at a depth follows a relationship so to a node that was not bound
 abbrev pub Extends : Run → ℕ → Follow → Type 0
 Extends c d f = (column : Bool) × (step_at c d ≡ Extend column f.rel f.from f.to f.direction)
+
+-- what is done follows a relationship so
+abbrev pub Leads : Action → Follow → Type 0
+Leads a f = (a ≡ act.List f) ⊎ (a ≡ act.Column f)
 
 -- the step at a depth is a test that rows alone decide
 pub record IsRowTest (c : Run) (d : ℕ) : Type 0 where

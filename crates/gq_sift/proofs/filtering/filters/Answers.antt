@@ -3,6 +3,8 @@ use Rattle.std.proofs.lemmas.Bool.{cases_eq}
 use Rattle.gq_steps.specs.Levels.{step_at}
 use Rattle.gq_steps.specs.Moves.{run_of}
 use Rattle.gq_sift.specs.Tested.{test_of}
+use Rattle.gq_steps.specs.declared.action.Action.TheVariants as act
+use Rattle.gq_steps.proofs.Acting.{acts}
 use Rattle.gq_sift.proofs.filtering.filters.Goals as goal
 
 pub loop-depth-init : goal.loop-depth-init
@@ -16,6 +18,6 @@ loop-depth-preserved c = λ d above below. elim (cases_eq d c.loop-depth.depth) 
 
 pub returns : goal.returns
 returns c = record {
-  scans = c.in_ok-node.ensures;
+  scans = acts c.args.plan_run.now c.args.group.first c.args.group.action (act.Scan c.in_ok-node.node) c.requires.steps.action c.in_ok-node.ensures;
   tests = λ d above below. c.loop-depth.invariant d above (let high = c.loop-depth-test.false in omega (arith, below));
 }

@@ -2,6 +2,7 @@ use Rattle.std.proofs.Common.{inl, inr, sym, subst, arith}
 use Rattle.std.proofs.lemmas.Bool.{cases_eq}
 use Rattle.gq_steps.specs.Moves.{run_of}
 use Rattle.gq_sift.specs.steps.RowTests.{IsListTest}
+use Rattle.gq_sift.proofs.Judged.{extends_by}
 use Rattle.gq_sift.proofs.judging.reads_rows.Goals as goal
 
 pub loop-depth-init : goal.loop-depth-init
@@ -15,6 +16,6 @@ loop-depth-preserved c = λ d above below. elim (cases_eq d c.loop-depth.depth) 
 
 pub returns : goal.returns
 returns c = record {
-  extends = c.in_ok-follow.ensures;
+  extends = extends_by c.args.plan_run.now c.args.group.first c.args.action c.in_ok-follow.follow c.requires.action c.in_ok-follow.ensures;
   tests = λ d above below. c.loop-depth.invariant d above (let high = c.loop-depth-test.false in omega (arith, below));
 }

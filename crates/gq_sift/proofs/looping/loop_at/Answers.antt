@@ -1,36 +1,14 @@
-use Rattle.std.proofs.Common.{◌∙◌, true, false, sym, ap}
-use Rattle.gq_plan.proofs.StepEquations.{scan_is, extend_is, column_extend_is, close_is, column_close_is, join_is, keep_is, differ_is, no_loop_is}
-use Rattle.gq_plan.specs.Plans.{Scan, Extend, Close, Join, Keep, Differ, NoLoop, plan_of}
-use Rattle.gq_plan.specs.declared.plan.Step as code
+use Rattle.std.proofs.Common.{◌∙◌, sym, ap}
+use Rattle.gq_steps.specs.Levels.{step_at}
+use Rattle.gq_steps.specs.Moves.{run_of}
+use Rattle.gq_steps.specs.declared.action.Action.TheVariants as act
 use Rattle.gq_sift.specs.steps.Loops.{loop_of}
-use Rattle.gq_steps.proofs.Trying.{half_at, step_is}
+use Rattle.gq_steps.proofs.Acting.{acts}
 use Rattle.gq_sift.proofs.Judged.{no_loop}
 use Rattle.gq_sift.proofs.looping.loop_at.Goals as goal
 
-pub returns-in-Keep : goal.returns-in-Keep
-returns-in-Keep c = sym (ap loop_of (step_is c.args.plan_run.now c.args.depth c.requires _ (code.Keep c.in-Keep.test) (Keep c.in-Keep.test) (c.step.ensures ∙ c.in-Keep.is) (keep_is c.in-Keep.test)))
-
-pub returns-in-Scan : goal.returns-in-Scan
-returns-in-Scan c = sym (ap loop_of (step_is c.args.plan_run.now c.args.depth c.requires _ (code.Scan c.in-Scan.node) (Scan c.in-Scan.node) (c.step.ensures ∙ c.in-Scan.is) (scan_is c.in-Scan.node)))
-
-pub returns-in-Extend : goal.returns-in-Extend
-returns-in-Extend c = sym (ap loop_of (step_is c.args.plan_run.now c.args.depth c.requires _ (code.Extend c.in-Extend.rel c.in-Extend.from c.in-Extend.to c.in-Extend.direction) (Extend false c.in-Extend.rel c.in-Extend.from c.in-Extend.to c.in-Extend.direction) (c.step.ensures ∙ c.in-Extend.is) (extend_is c.in-Extend.rel c.in-Extend.from c.in-Extend.to c.in-Extend.direction)))
-
-pub returns-in-ColumnExtend : goal.returns-in-ColumnExtend
-returns-in-ColumnExtend c = sym (ap loop_of (step_is c.args.plan_run.now c.args.depth c.requires _ (code.ColumnExtend c.in-ColumnExtend.rel c.in-ColumnExtend.from c.in-ColumnExtend.to c.in-ColumnExtend.direction) (Extend true c.in-ColumnExtend.rel c.in-ColumnExtend.from c.in-ColumnExtend.to c.in-ColumnExtend.direction) (c.step.ensures ∙ c.in-ColumnExtend.is) (column_extend_is c.in-ColumnExtend.rel c.in-ColumnExtend.from c.in-ColumnExtend.to c.in-ColumnExtend.direction)))
-
-pub returns-in-Close : goal.returns-in-Close
-returns-in-Close c = sym (ap loop_of (step_is c.args.plan_run.now c.args.depth c.requires _ (code.Close c.in-Close.rel c.in-Close.from c.in-Close.to c.in-Close.direction) (Close false c.in-Close.rel c.in-Close.from c.in-Close.to c.in-Close.direction) (c.step.ensures ∙ c.in-Close.is) (close_is c.in-Close.rel c.in-Close.from c.in-Close.to c.in-Close.direction)))
-
-pub returns-in-ColumnClose : goal.returns-in-ColumnClose
-returns-in-ColumnClose c = sym (ap loop_of (step_is c.args.plan_run.now c.args.depth c.requires _ (code.ColumnClose c.in-ColumnClose.rel c.in-ColumnClose.from c.in-ColumnClose.to c.in-ColumnClose.direction) (Close true c.in-ColumnClose.rel c.in-ColumnClose.from c.in-ColumnClose.to c.in-ColumnClose.direction) (c.step.ensures ∙ c.in-ColumnClose.is) (column_close_is c.in-ColumnClose.rel c.in-ColumnClose.from c.in-ColumnClose.to c.in-ColumnClose.direction))
-    ∙ no_loop (half_at c.args.plan_run.now c.args.depth) c.in-ColumnClose.rel c.in-ColumnClose.from c.in-ColumnClose.to c.in-ColumnClose.direction)
-
-pub returns-in-Join : goal.returns-in-Join
-returns-in-Join c = sym (ap loop_of (step_is c.args.plan_run.now c.args.depth c.requires _ (code.Join c.in-Join.side c.in-Join.keys) (Join (plan_of c.in-Join.side) c.in-Join.keys) (c.step.ensures ∙ c.in-Join.is) (join_is c.in-Join.side c.in-Join.keys)))
-
-pub returns-in-Differ : goal.returns-in-Differ
-returns-in-Differ c = sym (ap loop_of (step_is c.args.plan_run.now c.args.depth c.requires _ (code.Differ c.in-Differ.pair) (Differ c.in-Differ.pair) (c.step.ensures ∙ c.in-Differ.is) (differ_is c.in-Differ.pair)))
-
 pub returns-in-NoLoop : goal.returns-in-NoLoop
-returns-in-NoLoop c = sym (ap loop_of (step_is c.args.plan_run.now c.args.depth c.requires _ (code.NoLoop c.in-NoLoop.rel) (NoLoop c.in-NoLoop.rel) (c.step.ensures ∙ c.in-NoLoop.is) (no_loop_is c.in-NoLoop.rel)))
+returns-in-NoLoop c = sym (ap loop_of (acts c.args.plan_run.now c.args.depth c.action.result (act.NoLoop c.in-NoLoop.rel) c.action.ensures c.in-NoLoop.is))
+
+pub returns-in_default : goal.returns-in_default
+returns-in_default c = sym (no_loop (step_at (run_of c.args.plan_run.now) c.args.depth) (λ i is. c.in_default.not-NoLoop i (c.action.ensures ∙ is)))

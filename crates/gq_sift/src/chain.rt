@@ -1,0 +1,175 @@
+//! Groups that follow a chain of columns by rows alone: no load number is looked for on the way.
+ghost use Rattle.std.specs.Prelude.{◌≡◌, ◌<◌, ℕ, IfSome, Some, length, true};
+ghost use Rattle.gq_sift.specs.Tested.{test_of};
+ghost use Rattle.gq_sift.specs.declared.chain.Beginning.TheVariants as Begin;
+ghost use Rattle.gq_sift.specs.steps.Chains.{BeginsBy, CanBegin, GoesOn, HasBegun, IsChain, follow_of};
+ghost use Rattle.gq_sift.specs.steps.Judged.{IsJudged};
+ghost use Rattle.gq_steps.specs.Follows.{CanFollow};
+ghost use Rattle.gq_steps.specs.Keeps.{IsRange};
+ghost use Rattle.gq_steps.specs.Levels.{known, step_at};
+ghost use Rattle.gq_steps.specs.Matches.{AreMatches};
+ghost use Rattle.gq_steps.specs.Moves.{IsHeld, IsRun, run_of, steps_in};
+ghost use Rattle.gq_steps.specs.Reaching.{Reaches};
+ghost use Rattle.gq_steps.specs.declared.plan_run.Follow.{Follow};
+ghost use Rattle.gq_steps.specs.steps.Outcomes.{passes_at};
+
+use crate::filtering::scanned;
+use crate::judging::{extended, is_row_test, test_at};
+use crate::places::keep_place;
+use gq_plan::Assignment;
+use gq_steps::{Action, Follow, GroupSteps, PlanRun};
+
+/// How a chain begins: with the rows of a node variable, or with a list that is followed.
+#[derive(Clone, Copy)]
+pub(crate) enum Beginning {
+    Rows(u32),
+    List(Follow),
+}
+
+/// How a group begins, if rows alone say what its steps make: the others follow columns to nodes that
+/// were not bound, or are conditions that rows alone decide.
+pub(crate) fn chain_of(plan_run: &PlanRun<'_>, group: GroupSteps) -> Option<Beginning>
+    requires run { IsRun (run_of plan_run.now) }
+    requires steps { IsRange (run_of plan_run.now) group }
+    ensures { IfSome result (IsChain (run_of plan_run.now) group) }
+{
+    let beginning = begins(group.action)?;
+    for depth in group.first + 1..group.end {
+        if !goes_on(plan_run, depth) {
+            return None;
+        }
+    }
+    Some(beginning)
+}
+
+// How a chain begins, if one may.
+fn begins(action: Action) -> Option<Beginning>
+    ensures { IfSome result (BeginsBy action) }
+{
+    match scanned(action) {
+        Some(node) => Some(Beginning::Rows(node)),
+        None => match extended(action) {
+            Some(follow) => Some(Beginning::List(follow)),
+            None => None,
+        },
+    }
+}
+
+// Whether a chain goes on with the step at a depth.
+fn goes_on(plan_run: &PlanRun<'_>, depth: usize) -> bool
+    requires run { IsRun (run_of plan_run.now) }
+    requires depth { depth < length (steps_in plan_run.now) }
+    ensures { result ≡ true → GoesOn (run_of plan_run.now) depth }
+{
+    match follow_at(plan_run, depth) {
+        Some(_follow) => true,
+        None => is_row_test(plan_run, depth),
+    }
+}
+
+// How the step at a depth follows a relationship to a node that was not bound, if it does.
+fn follow_at(plan_run: &PlanRun<'_>, depth: usize) -> Option<Follow>
+    requires { depth < length (steps_in plan_run.now) }
+    ensures { result ≡ follow_of (step_at (run_of plan_run.now) depth) }
+{
+    match plan_run.action(depth) {
+        Action::List(follow) => Some(follow),
+        Action::Column(follow) => Some(follow),
+        _ => None,
+    }
+}
+
+/// Whether all steps of a group make something of a place of its whole list, which may be found out
+/// by rows alone. If the group joins, its matches are told.
+pub(crate) fn judge_place(
+    plan_run: &PlanRun<'_>,
+    group: GroupSteps,
+    chain: Option<Beginning>,
+    matches: &[u32],
+    place: u32,
+    row: &mut Assignment,
+) -> bool
+    requires run { IsRun (run_of plan_run.now) }
+    requires steps { IsRange (run_of plan_run.now) group }
+    requires chain { IfSome chain (IsChain (run_of plan_run.now) group) }
+    requires held { IsHeld (run_of plan_run.now) row.old (known (run_of plan_run.now) group.first) }
+    requires matches { AreMatches (run_of plan_run.now) group.first row.old matches.now }
+    ensures { IsJudged (run_of plan_run.now) group place row.old result row.new }
+{
+    match chain {
+        Some(beginning) => reach_place(plan_run, group, beginning, place, row),
+        None => keep_place(plan_run, group, matches, place, row),
+    }
+}
+
+// The same of a chain: the rows to which it leads are written.
+fn reach_place(
+    plan_run: &PlanRun<'_>,
+    group: GroupSteps,
+    beginning: Beginning,
+    place: u32,
+    row: &mut Assignment,
+) -> bool
+    requires run { IsRun (run_of plan_run.now) }
+    requires steps { IsRange (run_of plan_run.now) group }
+    requires chain { IsChain (run_of plan_run.now) group beginning }
+    requires held { IsHeld (run_of plan_run.now) row.old (known (run_of plan_run.now) group.first) }
+    ensures { IsJudged (run_of plan_run.now) group place row.old result row.new }
+{
+    if !begin(plan_run, beginning, place, row) {
+        return false;
+    }
+    for depth in group.first + 1..group.end {
+        if !go_on(plan_run, depth, row) {
+            return false;
+        }
+    }
+    true
+}
+
+// Writes the row at a place of the list with which a chain begins, if there is such a place.
+fn begin(plan_run: &PlanRun<'_>, beginning: Beginning, place: u32, row: &mut Assignment) -> bool
+    requires run { IsRun (run_of plan_run.now) }
+    requires can { CanBegin (run_of plan_run.now) row.old beginning }
+    ensures { HasBegun (run_of plan_run.now) beginning place row.old result row.new }
+{
+    match beginning {
+        Beginning::Rows(node) => scan(plan_run, node, place, row),
+        Beginning::List(follow) => plan_run.reach(follow, place, row),
+    }
+}
+
+// Writes the row of a node variable at a place, if there is one.
+fn scan(plan_run: &PlanRun<'_>, node: u32, place: u32, row: &mut Assignment) -> bool
+    requires run { IsRun (run_of plan_run.now) }
+    requires can { CanBegin (run_of plan_run.now) row.old (Begin.Rows node) }
+    ensures { HasBegun (run_of plan_run.now) (Begin.Rows node) place row.old result row.new }
+{
+    if place >= plan_run.row_count(node) {
+        return false;
+    }
+    row.nodes.set(node as usize, place);
+    true
+}
+
+// What the step at a depth of a chain makes of the rows: it writes the one to which it leads, or says
+// whether they pass.
+fn go_on(plan_run: &PlanRun<'_>, depth: usize, row: &mut Assignment) -> bool
+    requires run { IsRun (run_of plan_run.now) }
+    requires depth { depth < length (steps_in plan_run.now) }
+    requires can { (f : Follow) → follow_of (step_at (run_of plan_run.now) depth) ≡ Some f →
+        CanFollow plan_run.now.graph.now plan_run.now.typed.now row.old f }
+    ensures follows { (f : Follow) → follow_of (step_at (run_of plan_run.now) depth) ≡ Some f →
+        Reaches plan_run.now.graph.now plan_run.now.typed.now f 0 row.old result row.new }
+    ensures tests { (i : ℕ) → test_of (step_at (run_of plan_run.now) depth) ≡ Some i →
+        (row.new ≡ row.old) × (result ≡ passes_at plan_run.now.graph.now plan_run.now.typed.now
+        row.old i) }
+{
+    match follow_at(plan_run, depth) {
+        Some(follow) => plan_run.reach(follow, 0, row),
+        None => match test_at(plan_run, depth) {
+            Some(test) => plan_run.keep(test, row),
+            None => false,
+        },
+    }
+}
