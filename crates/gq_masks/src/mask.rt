@@ -108,7 +108,10 @@ impl<'g> Mask<'g> {
     }
 
     /// Whether it is told of some rows yet: it is not told of all of them, and not given up.
-    pub fn is_open(&self) -> bool {
+    pub fn is_open(&self) -> bool
+        ensures { let m = self.now in result ≡ true →
+            m.told < near_rows m.graph m.table m.direction }
+    {
         !self.ended && self.told < self.rows
     }
 

@@ -1,22 +1,22 @@
 -- A plan without groups: it has no step but tests that read nothing, which keep nothing or all.
-use Rattle.std.proofs.Common.{◌≡◌, ◌∙◌, ◌&&◌, ap, sym, refl, ℕ, Bool, true, false, cond, Option, Some, None, List, [], ◌∷◌, map, flat_map, slice_get, append-nil, true≢false}
+use Rattle.std.proofs.Common.{◌≡◌, ◌∙◌, ◌&&◌, ap, sym, refl, Bool, true, false, cond, Option, Some, None, List, [], ◌∷◌, map, flat_map, slice_get, append-nil, true≢false}
 use Rattle.std.specs.Prelude.{length}
 use Rattle.std.specs.List.{list_all, range_with_len}
-use Rattle.gq_arrange.proofs.Led.{AreIdle, IsIdle, idle_after, idle_all, idle_small, leading_all, steps_checked}
+use Rattle.gq_arrange.proofs.Led.{AreIdle, idle_after, idle_all, idle_small, leading_all, steps_checked}
 use Rattle.gq_arrange.specs.Law.{leading, led_number, led_order}
 use Rattle.gq_base.specs.Catalogs.{Tables}
 use Rattle.gq_base.specs.Plain.{Graph}
 use Rattle.gq_join.specs.Kept.{Held}
-use Rattle.gq_law_groups.specs.Groups.{checked, makes_group}
+use Rattle.gq_law_groups.specs.Groups.{checked}
 use Rattle.gq_plan.proofs.Values.{values_agree}
 use Rattle.gq_plan.specs.Arranged.{flags_of, homes, numbers_at}
 use Rattle.gq_plan.specs.Columns.{steps_of}
 use Rattle.gq_plan.specs.Conditions.{passes}
-use Rattle.gq_plan.specs.Covers.{Fits, after, after_step, test_bound}
+use Rattle.gq_plan.specs.Covers.{Fits, after, test_bound}
 use Rattle.gq_plan.specs.Halves.{halved}
 use Rattle.gq_plan.specs.Known.{Known, none}
 use Rattle.gq_plan.specs.Meaning.{Partial, holds, keep_if, mean, nothing, row, step}
-use Rattle.gq_plan.specs.Plans.{Plan, Done, Step, Keep}
+use Rattle.gq_plan.specs.Plans.{Plan, Done, Step}
 use Rattle.gq_plan.specs.Rows.{as_read}
 use Rattle.gq_plan.specs.Shapes.{is_flat_group, places}
 use Rattle.gq_plan.specs.declared.assignment.Assignment.{Assignment}

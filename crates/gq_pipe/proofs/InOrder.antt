@@ -1,5 +1,5 @@
 -- A plan's steps as they run, and its builds, in an order that has each of them.
-use Rattle.std.proofs.Common.{◌≡◌, ◌∙◌, take, ℕ, zero, suc, ◌+◌, ◌<◌, Bool, true, false, cond, true≢false, Option, Some, None, List, [], ◌∷◌, ◌++◌, flat_map, map, length, get_or, slice_get, refl, sym, ap, ap₂, arith}
+use Rattle.std.proofs.Common.{◌≡◌, ◌∙◌, take, ℕ, zero, suc, ◌+◌, ◌<◌, true, false, Option, Some, None, List, [], ◌∷◌, ◌++◌, flat_map, map, length, get_or, slice_get, refl, sym, ap, ap₂, arith}
 use Rattle.std.specs.Prelude.{slice_index_or, IsPermutation}
 use Rattle.std.specs.List.{AllByRecursion, range_with_len, sum_by}
 use Rattle.std.specs.Option.{option_to_list}
@@ -10,9 +10,9 @@ use Rattle.gq_base.specs.Plain.{Graph}
 use Rattle.gq_join.specs.Kept.{Held}
 use Rattle.gq_law_plans.proofs.Reordered.{permuted_flat_map}
 use Rattle.gq_plan.specs.Arranged.{at_numbers}
-use Rattle.gq_plan.specs.Columns.{own_columns, steps_of}
+use Rattle.gq_plan.specs.Columns.{own_columns}
 use Rattle.gq_plan.specs.Halves.{close_half, half_in, half_of, halves, halves_of, numbered_halves}
-use Rattle.gq_plan.specs.Plans.{Plan, Done, Then, Step, Scan, Extend, Close, Join, Keep, Differ, NoLoop, Single, Meet, steps, step_of}
+use Rattle.gq_plan.specs.Plans.{Step, Scan, Extend, Close, Join, Keep, Differ, NoLoop, Single, Meet, steps, step_of}
 use Rattle.gq_plan.specs.declared.halves.Half.{Half}
 use Rattle.gq_plan.specs.declared.halves.Half.TheVariants.{Whole, First, Second}
 use Rattle.gq_plan.specs.declared.halves.StepHalf.{StepHalf}

@@ -1,5 +1,5 @@
 -- Indexes of groups, one after another, and what they say of the places of a group where the first groups stand.
-use Rattle.std.proofs.Common.{◌≡◌, ℕ, zero, suc, ◌+◌, ◌-◌, ◌*◌, ◌^◌, ◌<◌, ◌≤◌, Bool, true, false, ◌&&◌, nat_eq, nat_lt, List, [], ◌∷◌, ◌++◌, Option, Some, None, length, slice_get, refl, sym, ap, ◌∙◌, subst, arith, inl, inr, ◌⊎◌}
+use Rattle.std.proofs.Common.{◌≡◌, ℕ, zero, suc, ◌+◌, ◌-◌, ◌*◌, ◌^◌, ◌<◌, ◌≤◌, Bool, true, false, ◌&&◌, nat_eq, nat_lt, List, [], ◌∷◌, ◌++◌, Option, Some, length, slice_get, refl, sym, ap, ◌∙◌, subst, arith, inl, inr, ◌⊎◌}
 use Rattle.std.specs.Coded.{Coded-set, coded_bool}
 use Rattle.std.specs.Prelude.{min, slice_index_or}
 use Rattle.std.proofs.Math.Logic.{∥∥₁_elim, ∥∥₁_map}
@@ -13,6 +13,7 @@ use Rattle.gq_sift.specs.Among.{IsAmong}
 use Rattle.gq_steps.specs.Groups.{group_at, no_group}
 use Rattle.gq_steps.specs.Keeps.{makes_one}
 use Rattle.gq_steps.specs.Levels.{Run, before, built_at, step_at}
+use Rattle.gq_steps.specs.Matches.{AreMatches}
 use Rattle.gq_steps.specs.Tries.{tries}
 use Rattle.gq_steps.specs.declared.group_steps.GroupSteps.{GroupSteps}
 use Rattle.gq_steps.specs.steps.Lists.{Stands, layout_in}
@@ -22,7 +23,7 @@ use Rattle.gq_search.specs.Running.{IsBlank}
 use Rattle.gq_pipe.specs.declared.valued.ValueIndex.{ValueIndex}
 use Rattle.gq_pipe.specs.steps.Valued.{AreIndexed, AreOpened, IsFoundIn, IsIndexed, IsNotBefore, IsOpened, IsUsable, IsValueJoin, numbers_in}
 use Rattle.gq_index.specs.Numbered.{HasRows}
-use Rattle.gq_pipe.proofs.ByValue.{below, none_found, others}
+use Rattle.gq_pipe.proofs.ByValue.{below, many, none_found, others, rising}
 
 -- ---- one group after another
 
@@ -47,7 +48,8 @@ indexed_of c ss gs ts is are = ∣ subst (λ g. AreIndexed c g ts) is are ∣₁
 opened_one : (c : Run) (x : GroupSteps) (t u : ValueIndex) → IsIndexed c x t → (u ≡ t) ⊎ IsOpened t u → IsIndexed c x u
 opened_one c x t u is (inl same) = subst (IsIndexed c x) (sym same) is
 opened_one c x t u is (inr o) = record {
-  join = subst (λ a. IsValueJoin c x u.build.now u.own a) (sym o.asked) (subst (λ w. IsValueJoin c x u.build.now w t.asked) (sym o.own) (subst (λ b. IsValueJoin c x b t.own t.asked) (sym o.build) is.join));
+  join = subst (IsValueJoin c x u.build.now u.own u.asked) (sym o.texts) (subst (λ a. IsValueJoin c x u.build.now u.own a t.texts) (sym o.asked)
+      (subst (λ w. IsValueJoin c x u.build.now w t.asked t.texts) (sym o.own) (subst (λ b. IsValueJoin c x b t.own t.asked t.texts) (sym o.build) is.join)));
   places = λ on. subst (λ b. HasRows (numbers_in b u.own) u.places) (sym o.build) (subst (λ w. HasRows (numbers_in t.build.now w) u.places) (sym o.own) (elim (o.places on) [
     | inl old ↦ subst (HasRows (numbers_in t.build.now t.own)) (sym old.1) (is.places old.0)
     | inr new ↦ new
@@ -59,27 +61,15 @@ still_indexed c ss olds news opened indexed = ∥∥₁_map indexed (λ are dept
     let one = opened depth u there in
     opened_one c (group_at ss depth) one.0 u (are depth one.0 one.1) one.2)
 
--- what an index asks before its matches are filled in, as a truth value
+-- what an index asks before its rows are filled in, as a truth value
 abbrev usable : ValueIndex → Bool
-usable t = nat_eq (length t.build.now.keys) 0 && nat_lt (place_of t.build.now.nodes t.own.node) (length t.build.now.nodes)
+usable t = nat_lt (place_of t.build.now.nodes t.own.node) (length t.build.now.nodes)
 
 is_usable : (c : Run) (x : GroupSteps) (t : ValueIndex) → IsIndexed c x t → usable t ≡ true
-is_usable c x t is =
-    let kept = is.join.asks.kept in
-    ap (λ n. nat_eq n 0 && nat_lt (place_of t.build.now.nodes t.own.node) (length t.build.now.nodes)) (ap length is.join.join.keys)
-    ∙ lt-ltb (place_of t.build.now.nodes t.own.node) (length t.build.now.nodes) kept
-
-none_of : (ks : List ℕ) → length ks ≡ 0 → ks ≡ []
-none_of [] none = refl
-none_of (k ∷ ks) none = absurd (omega (arith, none))
+is_usable c x t is = lt-ltb (place_of t.build.now.nodes t.own.node) (length t.build.now.nodes) is.join.asks.kept
 
 usable_of : (t : ValueIndex) → usable t ≡ true → IsUsable t
-usable_of t is =
-    let both = and_parts (nat_eq (length t.build.now.keys) 0) (nat_lt (place_of t.build.now.nodes t.own.node) (length t.build.now.nodes)) is in
-    record {
-      keys = none_of t.build.now.keys (eqb-true (length t.build.now.keys) 0 both.0);
-      kept = ltb-true (place_of t.build.now.nodes t.own.node) (length t.build.now.nodes) both.1;
-    }
+usable_of t is = record { kept = ltb-true (place_of t.build.now.nodes t.own.node) (length t.build.now.nodes) is }
 
 pub usable_at : (c : Run) (ss : List GroupSteps) (ts : List (Option ValueIndex)) (depth : ℕ) (t : ValueIndex) → slice_get ts depth ≡ Some (Some t) → ∥ AreIndexed c ss ts ∥₁ → IsUsable t
 usable_at c ss ts depth t there indexed = usable_of t (∥∥₁_elim indexed (Coded-set coded_bool _ _) (λ are. is_usable c (group_at ss depth) t (are depth t there)))
@@ -87,7 +77,8 @@ usable_at c ss ts depth t there indexed = usable_of t (∥∥₁_elim indexed (C
 -- ---- a group where the first ones stand
 
 module _ (c : Run) (ss : List GroupSteps) (row : Assignment) (ts : List (Option ValueIndex)) (indexed : ∥ AreIndexed c ss ts ∥₁) (depth : ℕ) (inside : depth < length ss) (x : GroupSteps) (found : x ≡ slice_index_or ss depth x)
-    (pre : List ℕ) (long : length pre ≡ depth) (st : Stands c ss row pre) (t : ValueIndex) (there : slice_get ts depth ≡ Some (Some t)) (on : t.stands ≡ true) where
+    (pre : List ℕ) (long : length pre ≡ depth) (st : Stands c ss row pre) (t : ValueIndex) (there : slice_get ts depth ≡ Some (Some t)) (on : t.stands ≡ true)
+    (rows : List ℕ) (matched : AreMatches c x.first row rows) where
   group_is : group_at ss depth ≡ x
   group_is = get_or_default ss depth no_group x inside ∙ sym found
 
@@ -99,21 +90,21 @@ module _ (c : Run) (ss : List GroupSteps) (row : Assignment) (ts : List (Option 
   places = length (tries c.graph c.typed (built_at c x.first) (step_at c x.first) (before c row x.first))
 
   -- the marks of a piece
-  module _ (piece first count : ℕ) (from : first ≡ VECTOR * piece) (much : count ≡ min (places - VECTOR * piece) VECTOR) (few : first + count < 2 ^ 32) (marks : List Bool) (f : IsFoundIn t piece row marks) where
+  module _ (piece first count : ℕ) (from : first ≡ VECTOR * piece) (much : count ≡ min (places - VECTOR * piece) VECTOR) (few : first + count < 2 ^ 32) (marks : List Bool) (f : IsFoundIn t rows piece row marks) where
     low_at : (k : ℕ) → is_marked marks k ≡ true → nat_lt k count ≡ true
     low_at k marked = ∥∥₁_elim indexed (Coded-set coded_bool _ _) (λ are.
-        lt-ltb k count (below c st.runs x (group_range c ss row depth inside x found pre long st) t (own are) on row (group_held c ss row depth inside x found pre long st) piece first count from much few marks f k marked))
+        lt-ltb k count (below c st.runs x (group_range c ss row depth inside x found pre long st) t (own are) on row (group_held c ss row depth inside x found pre long st) rows matched piece first count from much few marks f k marked))
 
     pub found_among : IsAmong c x first count row marks
     found_among = record {
-      len = f.whole;
+      len = f.by.whole;
       below = λ k on. ltb-true k count (low_at k on);
       others = λ k low off. ∥∥₁_elim indexed (Coded-set coded_bool _ _) (λ are.
-          others c st.runs x (group_range c ss row depth inside x found pre long st) t (own are) on row (group_held c ss row depth inside x found pre long st) piece first count from much few marks f k low off);
+          others c st.runs x (group_range c ss row depth inside x found pre long st) t (own are) on row (group_held c ss row depth inside x found pre long st) rows matched piece first count from much few marks f k low off);
     }
 
   -- the pieces that are passed over
-  module _ (piece next : ℕ) (few : (layout_in c ss).size pre < 2 ^ 32) (n : IsNotBefore t piece row next) where
+  module _ (piece next : ℕ) (few : (layout_in c ss).size pre < 2 ^ 32) (n : IsNotBefore t rows piece row next) where
     low : length pre < length ss
     low = omega (arith, long, inside)
 
@@ -124,8 +115,10 @@ module _ (c : Run) (ss : List GroupSteps) (row : Assignment) (ts : List (Option 
     keeps_none are j above below_it within =
         let size = group_size c ss row depth inside x found pre long st in
         sym (keeps_made c ss row pre st low j within) ∙ ap (λ (s : GroupSteps). makes_one c s j row) here_is
-        ∙ none_found c st.runs x (group_range c ss row depth inside x found pre long st) t (own are) on row (group_held c ss row depth inside x found pre long st) j (omega (arith, within, size)) (omega (arith, within, few))
-        (n.blank (numbers_in t.build.now t.own) j ((own are).places on) above below_it)
+        ∙ none_found c st.runs x (group_range c ss row depth inside x found pre long st) t (own are) on row (group_held c ss row depth inside x found pre long st) rows matched n.value n.asked j (omega (arith, within, size)) (omega (arith, within, few))
+        (n.by.blank (numbers_in t.build.now t.own) j ((own are).places on)
+        (rising c st.runs x (group_range c ss row depth inside x found pre long st) t (own are) on row (group_held c ss row depth inside x found pre long st) rows matched) above below_it
+        (let much = many c st.runs x (group_range c ss row depth inside x found pre long st) t (own are) on row (group_held c ss row depth inside x found pre long st) rows matched in omega (arith, within, size, much)))
 
     pub passed_blank : IsBlank (layout_in c ss) pre piece next
     passed_blank j above below_it = go (cases_lt j ((layout_in c ss).size pre))

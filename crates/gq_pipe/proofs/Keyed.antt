@@ -1,5 +1,5 @@
 -- What a walk stands for as the plan binds it is bound alike as the steps bind it, so it has the same key.
-use Rattle.std.proofs.Common.{◌≡◌, ℕ, ◌+◌, ◌<◌, ◌≤◌, arith, length, Bool, true, false, cond, nat_eq, Option, Some, None, List, [], ◌∷◌, map, filter, refl, sym, ap, ap₂, ◌∙◌, subst, true≢false}
+use Rattle.std.proofs.Common.{◌≡◌, ℕ, ◌+◌, ◌<◌, ◌≤◌, arith, length, Bool, true, false, cond, nat_eq, Option, Some, None, List, [], ◌∷◌, map, filter, refl, sym, ap, ap₂, ◌∙◌, subst}
 use Rattle.std.specs.Prelude.{IsPermutation}
 use Rattle.std.specs.List.{AllByRecursion}
 use Rattle.std.specs.Set.{distinct_count}

@@ -1,11 +1,10 @@
 -- Of a place of a list of which a later group makes nothing, since it closes at a node to which no relationship leads, there is no walk.
-use Rattle.std.proofs.Common.{◌≡◌, ℕ, zero, suc, ◌+◌, ◌-◌, ◌^◌, ◌<◌, ◌≤◌, Bool, true, false, cond, Some, None, Option, List, [], ◌∷◌, ◌++◌, length, map, drop, get_or, slice_get, refl, sym, ap, ◌∙◌, subst, arith, inl, inr}
+use Rattle.std.proofs.Common.{◌≡◌, ℕ, zero, suc, ◌+◌, ◌-◌, ◌^◌, ◌<◌, true, false, cond, Some, List, [], ◌∷◌, ◌++◌, length, map, drop, get_or, slice_get, refl, sym, ap, ◌∙◌, subst, arith, inl, inr}
 use Rattle.std.specs.Prelude.{slice_index, slice_index_or}
 use Rattle.std.proofs.lemmas.Bool.{and_parts, eq-eqb}
 use Rattle.std.proofs.lemmas.List.{append-nil, length-map, length-drop, get_or_default, get_or-map, get_or-set_same, get_or-drop}
 use Rattle.std.proofs.lemmas.Option.{slice_get_within}
 use Rattle.gq_base.specs.Directions.{opposite}
-use Rattle.gq_base.specs.declared.NodeId.{NodeId}
 use Rattle.gq_base.specs.declared.RelTable.{RelTable}
 use Rattle.gq_base.specs.declared.direction.Direction.{Direction}
 use Rattle.gq_near.specs.Rows.{stands_in}
@@ -13,12 +12,12 @@ use Rattle.gq_plan.specs.Covers.{after_step, fits_step, goes}
 use Rattle.gq_plan.specs.Halves.{Runs, runs_step}
 use Rattle.gq_plan.specs.Known.{Known, none}
 use Rattle.gq_plan.specs.Meaning.{Partial, nothing, look, holds}
-use Rattle.gq_plan.specs.Plans.{Step, Extend, Close, Keep}
+use Rattle.gq_plan.specs.Plans.{Step, Extend, Close}
 use Rattle.gq_plan.specs.Rows.{node_at, node_table, rel_table, table_of}
 use Rattle.gq_plan.specs.declared.assignment.Assignment.{Assignment}
 use Rattle.gq_plan.specs.declared.typed.TypedRel.{TypedRel}
 use Rattle.gq_store.specs.Neighbours.{near_rows, neighbours}
-use Rattle.gq_search.specs.Layouts.{IsPlace, Layout, number_of, walks}
+use Rattle.gq_search.specs.Layouts.{IsPlace, number_of, walks}
 use Rattle.gq_law_groups.specs.Layout.{size_from}
 use Rattle.gq_law_groups.specs.Groups.{Group, AreGroups, makes_group, own, raw, raw_at}
 use Rattle.gq_homes.specs.Cuts.{TilesTo}
@@ -39,11 +38,10 @@ use Rattle.gq_steps.specs.Groups.{Tiles, no_group, group_at, group_in, groups_in
 use Rattle.gq_steps.specs.Levels.{Run, step_at, built_at, known, before, taken}
 use Rattle.gq_steps.specs.Moves.{IsRun, IsHeld, IsMade}
 use Rattle.gq_steps.specs.Tries.{tries}
-use Rattle.gq_steps.specs.declared.follow.Hop.{Hop}
 use Rattle.gq_steps.specs.declared.group_steps.GroupSteps.{GroupSteps}
 use Rattle.gq_steps.specs.declared.plan_run.Follow.{Follow}
 use Rattle.gq_steps.specs.declared.plan_run.Tried.TheVariants.{Made}
-use Rattle.gq_steps.specs.steps.Lists.{flat_in, rows_in, layout_in, Stands}
+use Rattle.gq_steps.specs.steps.Lists.{IsGrouped, flat_in, rows_in, layout_in, Stands}
 use Rattle.gq_steps.specs.steps.Outcomes.{with_number, with_row}
 use Rattle.gq_steps.proofs.Binding.{fits_at}
 use Rattle.gq_steps.proofs.Hopping.{hop_there}
@@ -56,10 +54,13 @@ run_tiles : (c : Run) (from : ℕ) (ss : List GroupSteps) → Tiles c from ss �
 run_tiles c from [] h = h
 run_tiles c from (s ∷ ss) h = (h.0, h.1, h.2, run_tiles c s.end ss h.3)
 
+pub run_groups : (c : Run) (ss : List GroupSteps) → IsRun c → IsGrouped c ss → AreGroups c.graph c.typed (rows_in c ss) 0 (groups_in c ss)
+run_groups c ss run grouped =
+    are_groups c.graph c.typed run.valid (rows_in c ss) 0 (groups_in c ss) none grouped.cut (subst (Runs c.graph.catalog c.typed) (sym (tiles_plan c.steps 0 ss (run_tiles c 0 ss grouped.tiles))) run.fits)
+    (have_rows c run ss ss 0 0 (λ k below. let same : 0 + k ≡ k = omega arith in ap (group_at ss) same) grouped.tiles)
+
 pub all_groups : (c : Run) (ss : List GroupSteps) (row : Assignment) (pre : List ℕ) → Stands c ss row pre → AreGroups c.graph c.typed (rows_in c ss) 0 (groups_in c ss)
-all_groups c ss row pre st =
-    are_groups c.graph c.typed st.runs.valid (rows_in c ss) 0 (groups_in c ss) none st.grouped.cut (subst (Runs c.graph.catalog c.typed) (sym (tiles_plan c.steps 0 ss (run_tiles c 0 ss st.grouped.tiles))) st.runs.fits)
-    (have_rows c st.runs ss ss 0 0 (λ k below. let same : 0 + k ≡ k = omega arith in ap (group_at ss) same) st.grouped.tiles)
+all_groups c ss row pre st = run_groups c ss st.runs st.grouped
 
 -- one of the later groups
 ends_later : (c : Run) (rows : ℕ → List Partial) (i : ℕ) (ss : List GroupSteps) (k : Known) (a : Partial) (q : ℕ) → q < length ss

@@ -22,7 +22,7 @@ use Rattle.gq_steps.specs.Groups.{no_group, group_at}
 use Rattle.gq_steps.specs.Moves.{IsRun, IsHeld}
 use Rattle.gq_steps.specs.Tries.{tries}
 use Rattle.gq_steps.specs.declared.group_steps.GroupSteps.{GroupSteps}
-use Rattle.gq_steps.proofs.Here.{group_held, group_makes, group_size}
+use Rattle.gq_steps.proofs.Here.{group_held, group_makes, group_range, group_size}
 use Rattle.gq_steps.proofs.Joined.{build, join_count}
 use Rattle.gq_steps.proofs.Standings.{group_runs, stands_part, tile_at, IsWithin}
 use Rattle.gq_steps.proofs.Trying.{scan_count, extend_count, close_count}
@@ -100,6 +100,7 @@ module _ (c : Run) (ss : List GroupSteps) (row : Assignment) (cs : List Cursor) 
       record {
         run = st.runs;
         low = omega (arith, some, inside);
+        action = (group_range c ss row i low s found pre long at).action;
         makes = group_makes c ss row i low s found pre long at;
         held = group_held c ss row i low s found pre long at;
         inside = omega (arith, piece_inside, list_size);

@@ -1,5 +1,5 @@
 -- The next group where the first ones stand, with those behind it: their layout, and what is known there.
-use Rattle.std.proofs.Common.{◌≡◌, ℕ, zero, suc, ◌+◌, ◌<◌, ◌≤◌, Bool, true, false, cond, nat_eq, List, [], ◌∷◌, ◌++◌, length, drop, refl, sym, ap, ◌∙◌, subst, arith}
+use Rattle.std.proofs.Common.{◌≡◌, ℕ, zero, suc, ◌+◌, ◌<◌, ◌≤◌, Bool, true, false, List, [], ◌∷◌, ◌++◌, length, drop, refl, sym, ap, ◌∙◌, subst, arith}
 use Rattle.std.proofs.lemmas.Bool.{eq-eqb}
 use Rattle.std.proofs.lemmas.List.{append_assoc, append-nil}
 use Rattle.gq_plan.specs.Covers.{after_step}
@@ -9,7 +9,7 @@ use Rattle.gq_plan.specs.Plans.{Step, Scan, Extend, Close, Join, Keep, Differ, N
 use Rattle.gq_plan.specs.declared.assignment.Assignment.{Assignment}
 use Rattle.gq_search.specs.Layouts.{Layout}
 use Rattle.gq_law_groups.specs.Groups.{AreGroups}
-use Rattle.gq_law_groups.specs.Layout.{with_group, known_with, after_all, AreFlatEnough}
+use Rattle.gq_law_groups.specs.Layout.{with_group, known_with, AreFlatEnough}
 use Rattle.gq_law_groups.proofs.Ending.{Within, within-all, within-group}
 use Rattle.gq_law_groups.proofs.Following.{IsTail, tail_next, known_node}
 use Rattle.gq_steps.specs.Groups.{Tiles, group_at, group_in, groups_in}

@@ -1,6 +1,6 @@
 -- A plan that is started: its steps run in the order of its groups, and what is owed is what the plan means.
 use Rattle.std.proofs.Common.{◌≡◌, ◌∙◌, ℕ, zero, suc, ◌+◌, ◌<◌, ◌≤◌, ◌⊎◌, inl, inr, Bool, true, false, cond, nat_eq, Option, None, List, [], ◌∷◌, flat_map, map, length, take, get_or, refl, sym, ap, ap₂, subst, arith}
-use Rattle.std.specs.Prelude.{slice_index_or, All, IsPermutation}
+use Rattle.std.specs.Prelude.{slice_index_or, IsPermutation}
 use Rattle.std.specs.List.{AllByRecursion, list_all, range_with_len, sum_by}
 use Rattle.std.proofs.lemmas.Bool.{eq-eqb, ne_eqb}
 use Rattle.std.proofs.lemmas.List.{length-map, take_all}
@@ -11,8 +11,6 @@ use Rattle.gq_arrange.specs.Keys.{led, plan_key}
 use Rattle.gq_arrange.specs.Law.{IsArranged, led_order}
 use Rattle.gq_base.specs.Catalogs.{Tables}
 use Rattle.gq_base.specs.Plain.{Graph}
-use Rattle.gq_base.specs.Valid.{is_valid}
-use Rattle.gq_filter.specs.RowTests.{conditions_of}
 use Rattle.gq_group.specs.declared.home.Homes.{Homes}
 use Rattle.gq_join.specs.Kept.{Held}
 use Rattle.gq_law_groups.proofs.Moved.{same_plans}
@@ -29,7 +27,6 @@ use Rattle.gq_plan.specs.Known.{none}
 use Rattle.gq_plan.specs.Meaning.{Partial, keep_if, mean, nothing}
 use Rattle.gq_plan.specs.Plans.{Plan, Done, Step, plan_of, steps, step_of}
 use Rattle.gq_plan.specs.Shapes.{places}
-use Rattle.gq_plan.specs.Soundness.{IsSound}
 use Rattle.gq_plan.specs.declared.assignment.Assignment.{Assignment}
 use Rattle.gq_plan.specs.declared.halves.StepHalf.{StepHalf}
 use Rattle.gq_plan.specs.declared.plan.Plan as code_plan
@@ -40,7 +37,7 @@ use Rattle.gq_search.specs.Running.{spot_of}
 use Rattle.gq_search.specs.declared.walker.Cursor.{Cursor}
 use Rattle.gq_search.specs.declared.walker.State.{State}
 use Rattle.gq_steps.specs.Built.{AreBuilds}
-use Rattle.gq_pipe.specs.Keys.{assignment_key, build_rows, key_count, makers_of}
+use Rattle.gq_pipe.specs.Keys.{assignment_key, key_count, makers_of}
 use Rattle.gq_pipe.specs.Keys.{rows_of as brought_rows}
 use Rattle.gq_steps.specs.Given.{given}
 use Rattle.gq_homes.specs.Cuts.{begins, flag, groups_of, IsCutTo, step_in}
@@ -51,11 +48,12 @@ use Rattle.gq_steps.specs.Levels.{Run}
 use Rattle.gq_steps.specs.steps.Lists.{IsGrouped, layout_in, rows_in}
 use Rattle.gq_steps.specs.Groups.{group_in, groups_in}
 use Rattle.gq_steps.specs.steps.Outcomes.{passes_at}
-use Rattle.gq_steps.specs.Moves.{IsRun, builds_in, run_of, run_steps}
+use Rattle.gq_steps.specs.Moves.{IsRun, run_of}
 use Rattle.gq_homes.specs.declared.homes.Filling.{Filling}
 use Rattle.gq_steps.specs.declared.group_steps.GroupSteps.{GroupSteps}
 use Rattle.gq_steps.specs.declared.plan_run.PlanRun.{PlanRun}
 use Rattle.gq_pipe.specs.steps.Search.{AreGiven, maker_in, source_in}
+use Rattle.gq_pipe.specs.steps.Started.{IsStarted}
 use Rattle.gq_pipe.proofs.Groupless.{none_bound, none_flat, none_given, none_makers, none_mean, none_order}
 use Rattle.gq_pipe.proofs.InOrder.{builds_halves, columns_halved, halves_run, ordered_sum}
 use Rattle.gq_steps.proofs.Joined.{builds_many}
@@ -132,21 +130,6 @@ module _ (catalog : Tables) (y : Typed) (p : Plan) (os : List (Option Held)) (fi
 steps_none : (ss : List Step) → steps ss ≡ Done → 0 < length ss → ⊥
 steps_none [] e some = omega (arith, some)
 steps_none (s ∷ ss) e some = cc e
-
--- what runs are the steps of a plan and their builds, in the order of its groups
-pub record IsStarted (k : PlanRun) (p : code_plan.Plan) (os : List (Option Held)) (order : List StepHalf) (flat : List Bool) : Type 0 where
-  pub valid : is_valid k.graph.now ≡ true
-  pub sound : IsSound k.graph.now.catalog k.typed.now
-  pub fits : Fits k.graph.now.catalog k.typed.now (plan_of p)
-  pub builds : AreBuilds k.graph.now k.typed.now (plan_of p) os
-  pub plan : k.plan.now ≡ p.steps
-  pub order_is : order ≡ at_numbers (numbered_halves 0 (steps_of (plan_of p))) (led_order k.typed.now (plan_of p))
-  pub flat_is : flat ≡ flags_of k.typed.now (plan_of p)
-  pub within : All (λ (q : StepHalf). q.step < length p.steps) order
-  pub arranged : 0 < (places (plan_of p)).count → IsArranged k.graph.now.catalog k.typed.now (plan_of p) (led_order k.typed.now (plan_of p)) flat
-  pub steps_are : run_steps k.steps.items ≡ map (half_in (map step_of p.steps)) order
-  pub builds_are : builds_in k ≡ map (λ (q : StepHalf). slice_index_or os q.step None) order
-  pub tests_are : k.tests.items ≡ conditions_of k.graph.now k.typed.now
 
 module _ (k : PlanRun) (p : code_plan.Plan) (os : List (Option Held)) (order : List StepHalf) (flat : List Bool) (s : IsStarted k p os order flat) where
   abbrev c : Run

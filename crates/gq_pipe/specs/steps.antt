@@ -13,5 +13,6 @@ pub mod Origins
 pub mod Recalled
 pub mod Search
 pub mod Sights
+pub mod Started
 pub mod Told
 pub mod Valued

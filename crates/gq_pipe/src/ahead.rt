@@ -1,6 +1,6 @@
 //! What groups are told of their places by later ones, which make nothing of some.
 ghost use Rattle.std.specs.Prelude.{◌≡◌, ◌<◌, length, true, IfSome};
-ghost use Rattle.gq_pipe.specs.steps.Ahead.{EndsHere, StaysAhead};
+ghost use Rattle.gq_pipe.specs.steps.Ahead.{EndsHere, IsToldMore};
 ghost use Rattle.gq_pipe.specs.steps.Sights.{HasRow, IsListed, Scans};
 ghost use Rattle.gq_steps.specs.Levels.{known};
 ghost use Rattle.gq_steps.specs.Moves.{run_of, steps_in, IsHeld, IsRun};
@@ -8,15 +8,16 @@ ghost use Rattle.gq_steps.specs.Moves.{run_of, steps_in, IsHeld, IsRun};
 use crate::closing::Closing;
 use crate::closings::extends;
 use crate::sight::Sight;
-use gq_plan::{Assignment, Step};
-use gq_steps::PlanRun;
+use gq_bits::Marks;
+use gq_plan::Assignment;
+use gq_steps::{Action, PlanRun};
 
 /// What a group is told of its places by a later one.
 #[derive(Drop)]
 pub(crate) enum Ahead<'g> {
     /// That one closes at the group's node.
     Near(Closing<'g>),
-    /// It leads from the group's node to another one, of which a test is asked.
+    /// It leads from the group's node to another one.
     Far(Sight<'g>),
 }
 
@@ -25,18 +26,16 @@ impl Ahead<'_> {
     /// nothing of it. It takes no memory.
     pub(crate) fn ends_at(
         &mut self,
-        plan_run: &mut PlanRun<'_>,
+        plan_run: &PlanRun<'_>,
         depth: usize,
         place: u32,
-        row: &mut Assignment,
+        row: &Assignment,
     ) -> bool
-        requires run { IsRun (run_of plan_run.old) }
-        requires depth { depth < length (steps_in plan_run.old) }
-        requires held { IsHeld (run_of plan_run.old) row.old (known (run_of plan_run.old) depth) }
-        ensures ends { result ≡ true → EndsHere (run_of plan_run.old) depth row.old place self.new }
-        ensures stays { StaysAhead (run_of plan_run.old) self.old self.new }
-        ensures row { row.new ≡ row.old }
-        ensures same { plan_run.new ≡ plan_run.old }
+        requires run { IsRun (run_of plan_run.now) }
+        requires depth { depth < length (steps_in plan_run.now) }
+        requires held { IsHeld (run_of plan_run.now) row.now (known (run_of plan_run.now) depth) }
+        ensures ends { result ≡ true → EndsHere (run_of plan_run.now) depth row.now place self.new }
+        ensures same { self.new ≡ self.old }
     {
         match self {
             Ahead::Near(closing) => match extends(plan_run, depth) {
@@ -45,8 +44,28 @@ impl Ahead<'_> {
             },
             Ahead::Far(sight) => match row_at(plan_run, depth, place, row) {
                 None => false,
-                Some(own) => sight.ends_at(plan_run, own, row),
+                Some(own) => sight.ends_at(own),
             },
+        }
+    }
+
+    /// Whether it is time to tell it of more rows.
+    pub(crate) fn is_due(&mut self) -> bool
+        ensures { self.new ≡ self.old }
+    {
+        match self {
+            Ahead::Near(_) => false,
+            Ahead::Far(sight) => sight.mask.is_due(),
+        }
+    }
+
+    /// Tells it which of the next rows are chosen, if it has a mask. It takes no memory.
+    pub(crate) fn tell(&mut self, chosen: &Marks)
+        ensures { IsToldMore chosen.now self.old self.new }
+    {
+        match self {
+            Ahead::Near(_) => {}
+            Ahead::Far(sight) => sight.mask.tell(chosen),
         }
     }
 }
@@ -70,8 +89,8 @@ fn scans(plan_run: &PlanRun<'_>, depth: usize) -> bool
     requires { depth < length (steps_in plan_run.now) }
     ensures { result ≡ true → Scans (run_of plan_run.now) depth }
 {
-    match plan_run.step(depth) {
-        Step::Scan { .. } => true,
+    match plan_run.action(depth) {
+        Action::Scan(_node) => true,
         _ => false,
     }
 }

@@ -1,7 +1,7 @@
 //! What groups are told by later ones: those that follow lists by ones that close at their nodes, and
 //! others by ones that follow lists from theirs.
 ghost use Rattle.std.specs.Prelude.{◌≡◌, ◌<◌, length, false, true, IfSome};
-ghost use Rattle.gq_pipe.specs.steps.Ahead.{AreAhead, IsAhead};
+ghost use Rattle.gq_pipe.specs.steps.Ahead.{AreAhead, ArePut, AreUntold, IsAhead};
 ghost use Rattle.gq_pipe.specs.steps.Closings.{IsClosing};
 ghost use Rattle.gq_pipe.specs.steps.Told.{BindsNode, Closes, IsBoundBefore};
 ghost use Rattle.gq_plan.specs.Plans.{Close, Extend};
@@ -13,13 +13,12 @@ use crate::ahead::Ahead;
 use crate::closing::Closing;
 use crate::sights::sight_of;
 use gq_near::NearSet;
-use gq_plan::Step;
-use gq_steps::{Follow, GroupSteps, PlanRun, following};
+use gq_steps::{Action, Follow, GroupSteps, PlanRun, following};
 use std::alloc::Global;
 
-/// What each group is told by later ones. The memory for it is taken here; where there is none, no
-/// group is told anything.
-pub(crate) fn closings<'g>(
+/// What each group is told by later ones, from the last one to the first. The memory for it is taken
+/// here; where there is none, no group is told anything.
+pub(crate) fn aheads<'g>(
     alloc: Global,
     plan_run: &PlanRun<'g>,
     groups: &[GroupSteps],
@@ -27,24 +26,48 @@ pub(crate) fn closings<'g>(
     requires { IsRun (run_of plan_run.now) }
     ensures { AreAhead (run_of plan_run.now) groups.now result.items }
 {
-    let mut told = Vec::new(alloc);
-    for depth in 0..groups.len() {
-        let ahead = ahead_of(alloc, plan_run, groups, depth);
-        match told.push(ahead) {
+    let count = groups.len();
+    let mut aheads = untold(alloc, count);
+    for behind in 0..count {
+        let depth = count - 1 - behind;
+        let ahead = ahead_of(alloc, plan_run, groups, depth, aheads.as_slice());
+        put_ahead(&mut aheads, depth, ahead);
+    }
+    aheads
+}
+
+// So many groups that are told nothing, or none where there is no memory for them.
+fn untold<'g>(alloc: Global, count: usize) -> Vec<Option<Ahead<'g>>>
+    ensures { AreUntold result.items }
+{
+    let mut aheads = Vec::new(alloc);
+    for _ in 0..count {
+        match aheads.push(None) {
             Ok(()) => {}
             Err(_) => return Vec::new(alloc),
         }
     }
-    told
+    aheads
+}
+
+// A group is told this.
+fn put_ahead<'g>(aheads: &mut Vec<Option<Ahead<'g>>>, depth: usize, ahead: Option<Ahead<'g>>)
+    ensures { ArePut depth ahead.entry aheads.old.items aheads.new.items }
+{
+    match aheads.get_mut(depth) {
+        None => {}
+        Some(told) => *told = ahead,
+    }
 }
 
 // What a group is told by a later one: by one that closes at its node, or else by one that follows
-// a list from it.
+// a list from it. What later groups are told stands.
 fn ahead_of<'g>(
     alloc: Global,
     plan_run: &PlanRun<'g>,
     groups: &[GroupSteps],
     depth: usize,
+    aheads: &[Option<Ahead<'g>>],
 ) -> Option<Ahead<'g>>
     requires run { IsRun (run_of plan_run.now) }
     requires depth { depth < length groups.now }
@@ -52,7 +75,7 @@ fn ahead_of<'g>(
 {
     match closing_of(alloc, plan_run, groups, depth) {
         Some(closing) => Some(Ahead::Near(closing)),
-        None => match sight_of(alloc, plan_run, groups, depth) {
+        None => match sight_of(alloc, plan_run, groups, depth, aheads) {
             Some(sight) => Some(Ahead::Far(sight)),
             None => None,
         },
@@ -111,13 +134,8 @@ pub(crate) fn extends(plan_run: &PlanRun<'_>, depth: usize) -> Option<Follow>
     if depth >= plan_run.steps.len() {
         return None;
     }
-    match plan_run.step(depth) {
-        Step::Extend {
-            rel,
-            from,
-            to,
-            direction,
-        } => Some(following(*rel, *from, *to, *direction)),
+    match plan_run.action(depth) {
+        Action::List(follow) => Some(follow),
         _ => None,
     }
 }
@@ -147,13 +165,8 @@ fn closes(plan_run: &PlanRun<'_>, depth: usize) -> Option<Follow>
     if depth >= plan_run.steps.len() {
         return None;
     }
-    match plan_run.step(depth) {
-        Step::Close {
-            rel,
-            from,
-            to,
-            direction,
-        } => Some(following(*rel, *from, *to, *direction)),
+    match plan_run.action(depth) {
+        Action::Close(follow) => Some(follow),
         _ => None,
     }
 }
@@ -178,11 +191,9 @@ fn binds(plan_run: &PlanRun<'_>, depth: usize, node: u32) -> bool
     if depth >= plan_run.steps.len() {
         return false;
     }
-    match plan_run.step(depth) {
-        Step::Scan { node: own } => *own == node,
-        Step::Extend { to, .. } => *to == node,
-        Step::ColumnExtend { .. } | Step::Close { .. } | Step::ColumnClose { .. } => false,
-        Step::Join { .. } => false,
-        Step::Keep { .. } | Step::Differ { .. } | Step::NoLoop { .. } => false,
+    match plan_run.action(depth) {
+        Action::Scan(own) => own == node,
+        Action::List(follow) => follow.to == node,
+        _ => false,
     }
 }

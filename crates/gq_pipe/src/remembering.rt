@@ -42,8 +42,7 @@ fn remember(alloc: Global, steps: &[RunStep<'_>], tests: &mut Vec<RowTest<'_>>)
             Step::Extend { to, .. } => near = Some(*to),
             Step::Keep { test } => room -= remember_test(alloc, *test, near, room, tests),
             Step::Differ { .. } | Step::NoLoop { .. } => {}
-            Step::Scan { .. } | Step::Close { .. } | Step::Join { .. } => near = None,
-            Step::ColumnExtend { .. } | Step::ColumnClose { .. } => near = None,
+            _ => near = None,
         }
     }
 }

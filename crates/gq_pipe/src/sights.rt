@@ -8,28 +8,25 @@ ghost use Rattle.gq_plan.specs.Rows.{rel_table};
 ghost use Rattle.gq_steps.specs.Levels.{step_at};
 ghost use Rattle.gq_steps.specs.Moves.{run_of, IsRun};
 
+use crate::ahead::Ahead;
+use crate::chain::sight_at;
 use crate::closings::extends;
 use crate::sight::Sight;
-use crate::valued::test_at;
+use crate::value_joins::test_at;
 use gq_masks::Mask;
-use gq_plan::{Known, Step};
-use gq_steps::{Follow, GroupSteps, PlanRun};
+use gq_plan::Known;
+use gq_steps::{Action, Follow, GroupSteps, PlanRun};
 use std::alloc::Global;
 
-// How a group follows a list to a node of which a test is asked that reads nothing else.
-#[derive(Clone, Copy)]
-struct Lead {
-    follow: Follow,
-    test: u32,
-}
-
 /// What a flat group is told by the first later one that follows a list from its node to one of
-/// which a test is asked that reads nothing else, and that columns decide.
+/// which a test is asked that reads nothing else, and that columns decide, or that is itself told
+/// so by a later group.
 pub(crate) fn sight_of<'g>(
     alloc: Global,
     plan_run: &PlanRun<'g>,
     groups: &[GroupSteps],
     depth: usize,
+    aheads: &[Option<Ahead<'g>>],
 ) -> Option<Sight<'g>>
     requires run { IsRun (run_of plan_run.now) }
     requires depth { depth < length groups.now }
@@ -41,12 +38,53 @@ pub(crate) fn sight_of<'g>(
     }
     let node = node_of(plan_run, group.first)?;
     for later in depth + 1..groups.len() {
-        match lead_of(plan_run, groups[later], node) {
+        let next = groups[later];
+        match lead_of(plan_run, next, node) {
             None => {}
-            Some(lead) => return sight_by(alloc, plan_run, lead),
+            Some(follow) => {
+                if thins(plan_run, next, follow.to, aheads, later) {
+                    return sight_by(alloc, plan_run, follow, next, later);
+                }
+            }
         }
     }
     None
+}
+
+// Whether a group leads to rows of a node of which nothing may come: a test is asked of them, or the
+// group has a mask.
+fn thins(
+    plan_run: &PlanRun<'_>,
+    group: GroupSteps,
+    node: u32,
+    aheads: &[Option<Ahead<'_>>],
+    later: usize,
+) -> bool
+    requires { IsRun (run_of plan_run.now) }
+{
+    if is_asked(plan_run, group, node) {
+        return true;
+    }
+    match sight_at(aheads, later) {
+        None => false,
+        Some(next) => next.node == node,
+    }
+}
+
+// Whether a group asks a test that reads one node alone and that columns decide.
+fn is_asked(plan_run: &PlanRun<'_>, group: GroupSteps, node: u32) -> bool
+    requires { IsRun (run_of plan_run.now) }
+{
+    if group.first >= group.end {
+        return false;
+    }
+    for depth in group.first + 1..group.end {
+        match asked_at(plan_run, depth, node) {
+            None => {}
+            Some(_) => return true,
+        }
+    }
+    false
 }
 
 // The node that the step at a depth binds, if it scans or follows a list.
@@ -56,39 +94,27 @@ fn node_of(plan_run: &PlanRun<'_>, depth: usize) -> Option<u32>
     if depth >= plan_run.steps.len() {
         return None;
     }
-    match plan_run.step(depth) {
-        Step::Scan { node } => Some(*node),
-        Step::Extend { to, .. } => Some(*to),
-        Step::ColumnExtend { .. } | Step::Close { .. } | Step::ColumnClose { .. } => None,
-        Step::Join { .. } => None,
-        Step::Keep { .. } | Step::Differ { .. } | Step::NoLoop { .. } => None,
+    match plan_run.action(depth) {
+        Action::Scan(node) => Some(node),
+        Action::List(follow) => Some(follow.to),
+        _ => None,
     }
 }
 
-// How a group follows a list from a node to one of which a test is asked that reads nothing else,
-// and that columns decide, if it does.
-fn lead_of(plan_run: &PlanRun<'_>, group: GroupSteps, node: u32) -> Option<Lead>
-    requires { IsRun (run_of plan_run.now) }
-    ensures { IfSome result (λ l. IsLead (run_of plan_run.now) group node l.follow l.test) }
+// How a group follows a list from a node to another one, if it does.
+fn lead_of(plan_run: &PlanRun<'_>, group: GroupSteps, node: u32) -> Option<Follow>
+    ensures { IfSome result (IsLead (run_of plan_run.now) group node) }
 {
     let follow = extends(plan_run, group.first)?;
-    if follow.from != node {
-        return None;
+    if follow.from == node {
+        Some(follow)
+    } else {
+        None
     }
-    if group.end > plan_run.steps.len() {
-        return None;
-    }
-    for depth in group.first + 1..group.end {
-        match asked_at(plan_run, depth, follow.to) {
-            None => {}
-            Some(test) => return Some(Lead { follow, test }),
-        }
-    }
-    None
 }
 
-// The test that the step at a depth asks for, if it reads one node alone and columns decide it.
-fn asked_at(plan_run: &PlanRun<'_>, depth: usize, node: u32) -> Option<u32>
+/// The test that the step at a depth asks for, if it reads one node alone and columns decide it.
+pub(crate) fn asked_at(plan_run: &PlanRun<'_>, depth: usize, node: u32) -> Option<u32>
     requires { IsRun (run_of plan_run.now) }
     ensures { IfSome result (IsAsked (run_of plan_run.now) depth node) }
 {
@@ -125,30 +151,37 @@ fn reads_alone(plan_run: &PlanRun<'_>, test: u32, node: u32) -> bool
 }
 
 // What a group is told by one that follows a list from its node so.
-fn sight_by<'g>(alloc: Global, plan_run: &PlanRun<'g>, lead: Lead) -> Option<Sight<'g>>
-    ensures node { IfSome result (λ t. t.node ≡ lead.follow.from) }
-    ensures far { IfSome result (λ t. t.far ≡ lead.follow.to) }
+fn sight_by<'g>(
+    alloc: Global,
+    plan_run: &PlanRun<'g>,
+    follow: Follow,
+    group: GroupSteps,
+    later: usize,
+) -> Option<Sight<'g>>
+    ensures node { IfSome result (λ t. t.node ≡ follow.from) }
+    ensures later { IfSome result (λ t. t.later ≡ later) }
+    ensures group { IfSome result (λ t. t.group ≡ group) }
+    ensures far { IfSome result (λ t. t.far ≡ follow.to) }
     ensures far_in { IfSome result (λ t. t.far < length plan_run.now.typed.now.nodes) }
-    ensures test { IfSome result (λ t. t.test ≡ lead.test) }
     ensures graph { IfSome result (λ t. t.mask.graph ≡ plan_run.now.graph.now) }
     ensures table { IfSome result (λ t. t.mask.table ≡ rel_table plan_run.now.typed.now
-        lead.follow.rel) }
-    ensures direction { IfSome result (λ t. t.mask.direction ≡ opposite lead.follow.direction) }
+        follow.rel) }
+    ensures direction { IfSome result (λ t. t.mask.direction ≡ opposite follow.direction) }
     ensures told { IfSome result (λ t. t.mask.told ≡ 0) }
 {
-    if lead.follow.to as usize >= plan_run.typed.nodes.len() {
+    if follow.to as usize >= plan_run.typed.nodes.len() {
         return None;
     }
-    let table = plan_run.typed.rels.get(lead.follow.rel as usize)?.table;
+    let table = plan_run.typed.rels.get(follow.rel as usize)?.table;
     if table >= plan_run.graph.catalog().rel_tables() {
         return None;
     }
-    let direction = lead.follow.direction.opposite();
-    let mask = Mask::over(alloc, plan_run.graph, table, direction)?;
+    let mask = Mask::over(alloc, plan_run.graph, table, follow.direction.opposite())?;
     Some(Sight {
-        node: lead.follow.from,
-        far: lead.follow.to,
-        test: lead.test,
+        node: follow.from,
+        later,
+        group,
+        far: follow.to,
         mask,
     })
 }

@@ -129,6 +129,6 @@ fn put_group<'g>(
     } else {
         None
     };
-    let piece = plan_run.piece(steps.first, matches, VECTOR * number, row);
+    let piece = plan_run.piece(steps, matches, VECTOR * number, row);
     group.put(piece, current, marks, plan_run.kept(steps.first));
 }

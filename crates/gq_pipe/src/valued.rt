@@ -1,115 +1,145 @@
 //! Joins whose matches are found by a value: a test of the group asks that a property of a node of
 //! the build is equal to one of a node that stands.
-ghost use Rattle.std.specs.Prelude.{◌≡◌, ◌≢◌, ◌<◌, ◌≤◌, ◌+◌, ◌*◌, ◌^◌, [], ℕ, Bool, List, Some, IfSome, length};
-ghost use Rattle.std.specs.Prelude.{slice_get, true, false};
-ghost use Rattle.gq_filter.specs.Equal.{HaveOne};
+ghost use Rattle.std.specs.Prelude.{◌≡◌, ◌≢◌, ◌<◌, ◌≤◌, ◌+◌, ◌*◌, ◌^◌, ℕ, Bool, List, Some, IfOk, IfSome, length};
+ghost use Rattle.std.specs.Prelude.{slice_get, true};
+ghost use Rattle.gq_filter.specs.Equal.{node_cell};
 ghost use Rattle.gq_index.specs.Numbered.{AreKeys};
 ghost use Rattle.gq_join.specs.Kept.{place_of};
 ghost use Rattle.gq_pipe.specs.steps.Recalled.{IsOwn};
-ghost use Rattle.gq_pipe.specs.steps.Valued.{AreIndexed, AreOpened, AsksEqual, IsFoundIn, IsIndexed, IsNotBefore};
-ghost use Rattle.gq_pipe.specs.steps.Valued.{IsOpened, IsUsable};
-ghost use Rattle.gq_pipe.specs.steps.Valued.{IsUnkeyed, IsValueJoin, is_test, number_in, numbers_in};
-ghost use Rattle.gq_plan.specs.Plans.{Keep};
+ghost use Rattle.gq_pipe.specs.steps.Valued.{AreIndexed, AreOpened, IsAsked, IsFoundBy, IsFoundIn, IsIndexed};
+ghost use Rattle.gq_pipe.specs.steps.Valued.{IsNotBefore, IsNotBy, IsOpened, IsUsable};
+ghost use Rattle.gq_pipe.specs.steps.Valued.{dicts_of, number_in, numbers_in};
 ghost use Rattle.gq_sift.specs.Among.{IsAmong};
 ghost use Rattle.gq_steps.specs.Keeps.{IsRange, IsSifted};
 ghost use Rattle.gq_steps.specs.Levels.{before, built_at, known, step_at};
 ghost use Rattle.gq_steps.specs.Matches.{AreMatches};
 ghost use Rattle.gq_steps.specs.Moves.{run_of, IsRun, IsHeld};
 ghost use Rattle.gq_steps.specs.Tries.{tries};
-ghost use Rattle.gq_steps.specs.steps.Outcomes.{passes_at};
 
 use crate::recalled::sift_piece;
+use crate::value_joins::{TwoDicts, value_join};
+use gq_base::Memory;
 use gq_bits::{Marks, VECTOR};
-use gq_filter::{EqualColumns, NodeColumn};
+use gq_filter::NodeColumn;
 use gq_index::{RowsByNumber, number_of};
 use gq_join::Sealed;
-use gq_plan::{Assignment, Step};
+use gq_plan::Assignment;
+use gq_same_texts::SameTexts;
 use gq_sift::{Remembered, sift_among};
 use gq_steps::{GroupSteps, PlanRun};
 use std::alloc::Global;
 
-/// At which opening of its list an index is filled: before, a search that ends soon pays nothing for
-/// it.
-const FILLED_AT: u32 = 3;
+/// An index is filled once so many times as many places were gone through as its build has rows:
+/// before, a search that ends soon pays nothing for it.
+const FILLED_AT: usize = 3;
 
-/// The matches of a join without keys, by the values of a property of a node that its build keeps,
-/// and the property of a node that stands to which these have to be equal. There is room for them
-/// from the start on; they stand there once the list was opened often enough.
+/// So many places are tried one by one: to search for a value takes longer.
+const SHORT: usize = 32;
+
+/// The rows of a join's build, by the values of a property of a node that it keeps, and the property
+/// of a node that stands to which these have to be equal. There is room for them from the start on;
+/// they stand there once enough places were gone through.
 #[derive(Drop)]
 pub(crate) struct ValueIndex<'g> {
     pub(crate) asked: NodeColumn<'g>,
     pub(crate) own: NodeColumn<'g>,
     pub(crate) build: &'g Sealed,
+    // Where both are texts of two dictionaries: what is asked for in the build's one.
+    pub(crate) texts: Option<SameTexts<'g>>,
     pub(crate) places: RowsByNumber,
     pub(crate) stands: bool,
-    // How often the list was opened before.
-    pub(crate) opened: u32,
-}
-
-// A join without keys, and two properties that a test of its group asks to be equal: one of a node
-// that the build keeps, and the other of one that it does not keep.
-#[derive(Clone, Copy)]
-struct ValueJoin<'g> {
-    build: &'g Sealed,
-    own: NodeColumn<'g>,
-    asked: NodeColumn<'g>,
+    // How many places the lists had that were opened.
+    pub(crate) opened: usize,
 }
 
 impl ValueIndex<'_> {
-    // The places of a piece at which the value stands that is asked for. It takes no memory.
-    fn piece(&self, piece: u32, row: &Assignment) -> Marks
-        ensures { IsFoundIn self.now piece row.now result }
+    // The value that is asked for, as the build's cells have it. It takes no memory.
+    fn value(&self, row: &Assignment) -> Option<i64>
+        ensures { IsAsked self.now.texts (node_cell self.now.asked row.now) result }
     {
-        match self.asked.node_cell(row) {
-            None => Marks::none(),
-            Some(value) => self.places.piece(number_of(value), piece),
+        let cell = self.asked.node_cell(row);
+        match &self.texts {
+            None => cell,
+            Some(texts) => texts.turned(cell),
         }
     }
 
-    /// A piece, from one on, before which the value that is asked for stands at no place from that
-    /// one on. It takes no memory.
-    pub(crate) fn next_piece(&self, piece: u32, row: &Assignment) -> u32
-        ensures { IsNotBefore self.now piece row.now result }
+    // Which of a piece of the matches have the value that is asked for. It takes no memory.
+    fn piece(&self, matches: &[u32], piece: u32, row: &Assignment) -> Marks
+        ensures { IsFoundIn self.now matches.now piece row.now result }
     {
-        match self.asked.node_cell(row) {
-            None => u32::MAX,
-            Some(value) => self.places.next_piece(number_of(value), piece),
-        }
+        places_of(&self.places, matches, self.value(row), piece)
     }
 
-    // One more opening of the list. It takes no memory, as there is room.
-    fn open(&mut self)
-        requires keys { self.old.build.now.keys ≡ [] }
-        requires kept { let h = self.old.build.now in
+    /// A piece of the matches, from one on, before which none from that one on has the value that is
+    /// asked for. It takes no memory.
+    pub(crate) fn next_piece(&self, matches: &[u32], piece: u32, row: &Assignment) -> u32
+        ensures { IsNotBefore self.now matches.now piece row.now result }
+    {
+        piece_from(&self.places, matches, self.value(row), piece)
+    }
+
+    // One more list of so many places is opened. It takes no memory, as there is room.
+    fn open(&mut self, places: usize)
+        requires { let h = self.old.build.now in
             place_of h.nodes self.old.own.node < length h.nodes }
         ensures { IsOpened self.old self.new }
     {
         if self.stands {
             return;
         }
-        self.opened = self.opened.saturating_add(1);
-        if self.opened < FILLED_AT {
+        self.opened = self.opened.saturating_add(places);
+        if self.opened / FILLED_AT < self.build.len() as usize {
             return;
         }
         if fill(&mut self.places, self.build, self.own) {
             self.places.sort();
+            fill_texts(&mut self.texts);
             self.stands = true;
         }
     }
 }
 
-// Puts the matches of a build without keys beside the values of a property of a node that it keeps,
-// where there is room for them.
+// Which of a piece of some rows have a value.
+fn places_of(places: &RowsByNumber, rows: &[u32], value: Option<i64>, piece: u32) -> Marks
+    ensures { IsFoundBy places.now rows.now value piece result }
+{
+    match value {
+        None => Marks::none(),
+        Some(value) => places.piece(number_of(value), rows, piece),
+    }
+}
+
+// A piece of some rows, from one on, before which none from that one on has a value.
+fn piece_from(places: &RowsByNumber, rows: &[u32], value: Option<i64>, piece: u32) -> u32
+    ensures { IsNotBy places.now rows.now value piece result }
+{
+    match value {
+        None => u32::MAX,
+        Some(value) => places.next_piece(number_of(value), rows, piece),
+    }
+}
+
+// Looks up once what the texts of one dictionary are in the other one, where there is room for it.
+fn fill_texts(texts: &mut Option<SameTexts<'_>>)
+    ensures { texts.new ≡ texts.old }
+{
+    match texts {
+        None => {}
+        Some(texts) => texts.fill(),
+    }
+}
+
+// Puts the rows of a build beside the values of a property of a node that it keeps, where there is
+// room for them.
 fn fill(places: &mut RowsByNumber, build: &Sealed, own: NodeColumn<'_>) -> bool
-    requires keys { build.now.keys ≡ [] }
-    requires kept { place_of build.now.nodes own.node < length build.now.nodes }
+    requires { place_of build.now.nodes own.node < length build.now.nodes }
     ensures { result ≡ true → AreKeys (numbers_in build.now own.entry) places.new }
 {
     places.clear();
-    let rows = build.matches(&[]);
-    for at in 0..rows.len() {
-        let node = build.node(rows[at], own.node);
-        match places.push(number_in(own.row_cell(node)), at as u32) {
+    for row in 0..build.len() {
+        let node = build.node(row, own.node);
+        match places.push(number_in(own.row_cell(node)), row) {
             Ok(()) => {}
             Err(_) => return false,
         }
@@ -117,8 +147,8 @@ fn fill(places: &mut RowsByNumber, build: &Sealed, own: NodeColumn<'_>) -> bool
     true
 }
 
-/// One more opening of the list of the group at a depth, if it has an index.
-pub(crate) fn open_at(indexes: &mut Vec<Option<ValueIndex<'_>>>, depth: usize)
+/// A list of so many places is opened of the group at a depth, if it has an index.
+pub(crate) fn open_at(indexes: &mut Vec<Option<ValueIndex<'_>>>, depth: usize, places: usize)
     requires { (t : ValueIndex) → slice_get indexes.old.items depth ≡ Some (Some t) → IsUsable t }
     ensures { AreOpened indexes.old.items indexes.new.items }
 {
@@ -126,19 +156,24 @@ pub(crate) fn open_at(indexes: &mut Vec<Option<ValueIndex<'_>>>, depth: usize)
         None => {}
         Some(found) => match found {
             None => {}
-            Some(index) => index.open(),
+            Some(index) => index.open(places),
         },
     }
 }
 
-/// The index of the group at a depth, if it has one that stands.
+/// The index of the group at a depth, if it has one that stands, where its list has so many places
+/// that to look into it is worth while.
 pub(crate) fn index_at<'i, 'g>(
     indexes: &'i [Option<ValueIndex<'g>>],
     depth: usize,
+    places: usize,
 ) -> Option<&'i ValueIndex<'g>>
     ensures there { IfSome result (λ t. slice_get indexes.now depth ≡ Some (Some t.now)) }
     ensures stands { IfSome result (λ t. t.now.stands ≡ true) }
 {
+    if places <= SHORT {
+        return None;
+    }
     match indexes.get(depth) {
         None => None,
         Some(found) => match found {
@@ -173,7 +208,7 @@ pub(crate) fn sift_found(
         c.typed (built_at c group.first) (step_at c group.first) (before c row.old group.first)) }
     requires among { (t : ValueIndex) (marks : List Bool)
         → slice_get indexes.now depth ≡ Some (Some t) → t.stands ≡ true
-        → IsFoundIn t piece row.old marks
+        → IsFoundIn t matches.now piece row.old marks
         → IsAmong (run_of plan_run.old) group (piece * VECTOR) count row.old marks }
     requires own { IsOwn (run_of plan_run.old) group remembered.old.items depth }
     ensures sifted { IsSifted (run_of plan_run.old) group (piece * VECTOR) count row.old row.new
@@ -183,12 +218,12 @@ pub(crate) fn sift_found(
         slice_get remembered.new.items d ≡ slice_get remembered.old.items d }
     ensures same { plan_run.new ≡ plan_run.old }
 {
-    match index_at(indexes, depth) {
+    match index_at(indexes, depth, matches.len()) {
         None => sift_piece(
             remembered, depth, plan_run, group, matches, piece, count, row, marks,
         ),
         Some(index) => {
-            *marks = index.piece(piece, row);
+            *marks = index.piece(matches, piece, row);
             sift_among(plan_run, group, matches, piece * VECTOR, count, row, marks);
         }
     }
@@ -252,16 +287,39 @@ fn value_index<'g>(
     ensures { IfSome result (IsIndexed (run_of plan_run.now) group) }
 {
     let join = value_join(plan_run, group)?;
-    match RowsByNumber::with_room(alloc, join.build.matches(&[]).len()) {
+    let rows = join.build.len() as usize;
+    match RowsByNumber::with_room(alloc, rows) {
         Err(_) => None,
-        Ok(places) => Some(ValueIndex {
-            asked: join.asked,
-            own: join.own,
-            build: join.build,
-            places,
-            stands: false,
-            opened: 0,
-        }),
+        Ok(places) => match same_texts(alloc, join.asks.dicts, rows) {
+            Err(_) => None,
+            Ok(texts) => Some(ValueIndex {
+                asked: join.asks.asked,
+                own: join.asks.own,
+                build: join.build,
+                texts,
+                places,
+                stands: false,
+                opened: 0,
+            }),
+        },
+    }
+}
+
+// What texts of one dictionary are in another one, if there are two. Where the one has no more texts
+// than the build has rows, each is looked up once.
+fn same_texts<'g>(
+    alloc: Global,
+    dicts: Option<TwoDicts<'g>>,
+    rows: usize,
+) -> Result<Option<SameTexts<'g>>, Memory>
+    ensures { IfOk result (λ texts. texts ≡ dicts_of dicts.entry) }
+{
+    match dicts {
+        None => Ok(None),
+        Some(dicts) => {
+            let texts = SameTexts::with_room(alloc, dicts.from, dicts.to, rows)?;
+            Ok(Some(texts))
+        }
     }
 }
 
@@ -273,125 +331,4 @@ fn number_in(value: Option<i64>) -> Option<u64>
         None => None,
         Some(value) => Some(number_of(value)),
     }
-}
-
-// How a group joins by a value, if it does.
-fn value_join<'g>(plan_run: &PlanRun<'g>, group: GroupSteps) -> Option<ValueJoin<'g>>
-    requires { IsRun (run_of plan_run.now) }
-    ensures { IfSome result (λ j. IsValueJoin (run_of plan_run.now) group j.build.now j.own
-        j.asked) }
-{
-    let build = unkeyed(plan_run, group.first)?;
-    if group.first >= group.end {
-        return None;
-    }
-    for depth in group.first + 1..group.end {
-        if !is_test(plan_run, depth) {
-            return None;
-        }
-        match asks_equal(plan_run, depth, build) {
-            None => {}
-            Some(equal) => {
-                return Some(ValueJoin {
-                    build,
-                    own: equal.left,
-                    asked: equal.right,
-                });
-            }
-        }
-    }
-    None
-}
-
-// The build of the step at a depth, if it is a join without keys.
-fn unkeyed<'g>(plan_run: &PlanRun<'g>, depth: usize) -> Option<&'g Sealed>
-    requires { IsRun (run_of plan_run.now) }
-    ensures { IfSome result (λ h. IsUnkeyed (run_of plan_run.now) depth h.now) }
-{
-    if depth >= plan_run.steps.len() {
-        return None;
-    }
-    if depth >= plan_run.builds.len() {
-        return None;
-    }
-    match plan_run.step(depth) {
-        Step::Join { keys, .. } => {
-            if keys.is_empty() {
-                plan_run.build_at(depth)
-            } else {
-                None
-            }
-        }
-        _ => None,
-    }
-}
-
-// Whether the step at a depth is a test that binds nothing.
-fn is_test(plan_run: &PlanRun<'_>, depth: usize) -> bool
-    ensures { result ≡ true → is_test (step_at (run_of plan_run.now) depth) ≡ true }
-{
-    if depth >= plan_run.steps.len() {
-        return false;
-    }
-    match plan_run.step(depth) {
-        Step::Keep { .. } => true,
-        Step::Differ { .. } => true,
-        Step::NoLoop { .. } => true,
-        _ => false,
-    }
-}
-
-// Properties of two nodes that the step at a depth asks to be equal, that of a node that a build
-// keeps first, if the other node is one that it does not keep.
-fn asks_equal<'g>(plan_run: &PlanRun<'g>, depth: usize, build: &Sealed) -> Option<EqualColumns<'g>>
-    requires { IsRun (run_of plan_run.now) }
-    ensures { IfSome result (λ e. AsksEqual (run_of plan_run.now) depth build.now e.left e.right) }
-{
-    let test = test_at(plan_run, depth)?;
-    let equal = equal_columns(plan_run, test)?;
-    let left = keeps(build, equal.left.node);
-    let right = keeps(build, equal.right.node);
-    if left && !right {
-        Some(equal)
-    } else if right && !left {
-        Some(EqualColumns {
-            left: equal.right,
-            right: equal.left,
-        })
-    } else {
-        None
-    }
-}
-
-/// The test that the step at a depth asks for, if it does.
-pub(crate) fn test_at(plan_run: &PlanRun<'_>, depth: usize) -> Option<u32>
-    ensures { IfSome result (λ i. step_at (run_of plan_run.now) depth ≡ Keep i) }
-{
-    if depth >= plan_run.steps.len() {
-        return None;
-    }
-    match plan_run.step(depth) {
-        Step::Keep { test } => Some(*test),
-        _ => None,
-    }
-}
-
-// Properties of two nodes that a test asks to be equal, if it is seen to ask for that.
-fn equal_columns<'g>(plan_run: &PlanRun<'g>, test: u32) -> Option<EqualColumns<'g>>
-    requires { IsRun (run_of plan_run.now) }
-    ensures { let c = run_of plan_run.now in IfSome result (λ e. (row : Assignment)
-        → passes_at c.graph c.typed row test ≡ true → HaveOne e row) }
-{
-    match plan_run.tests.get(test as usize) {
-        None => None,
-        Some(test) => test.equal_columns(),
-    }
-}
-
-// Whether a build keeps a node variable.
-fn keeps(build: &Sealed, node: u32) -> bool
-    ensures yes { result ≡ true → place_of build.now.nodes node < length build.now.nodes }
-    ensures no { result ≡ false → length build.now.nodes ≤ place_of build.now.nodes node }
-{
-    build.node_place(node) < build.nodes().len()
 }

@@ -9,6 +9,7 @@ use Rattle.gq_search.specs.Layouts.{piece_of}
 use Rattle.gq_search.specs.Running.{Runs, cursor_at, keys_of}
 use Rattle.gq_search.specs.declared.walker.Cursor.{Cursor}
 use Rattle.gq_law_groups.specs.Groups.{makes_group}
+use Rattle.gq_steps.specs.Actions.{action_of}
 use Rattle.gq_steps.specs.Levels.{Run, step_at, known}
 use Rattle.gq_steps.specs.Moves.{IsRun, IsHeld}
 use Rattle.gq_steps.specs.steps.Lists.{layout_in, EarlierStand}
@@ -60,6 +61,7 @@ pub record ShowsNumber (g : Group) (flat : Bool) (key : ℕ) : Type 0 where
 pub record CanStand (c : Run) (row : Assignment) (s : GroupSteps) (cursor : Cursor) : Type 0 where
   pub run : IsRun c
   pub low : s.first < length c.steps
+  pub action : s.action ≡ action_of (step_at c s.first)
   pub makes : makes_group (step_at c s.first) ≡ true
   pub held : IsHeld c row (known c s.first)
   pub inside : VECTOR * piece_of s.flat cursor.key ≤ length (list_of c s.first row (step_at c s.first))

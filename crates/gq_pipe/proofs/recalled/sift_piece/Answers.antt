@@ -1,4 +1,4 @@
-use Rattle.std.proofs.Common.{◌≡◌, ◌<◌, Some, length, refl, sym, ap, ◌∙◌, arith}
+use Rattle.std.proofs.Common.{◌<◌, Some, length, refl, arith}
 use Rattle.gq_steps.specs.Moves.{run_of}
 use Rattle.gq_pipe.proofs.Recalling.{item_there, set_apart, written_own}
 use Rattle.gq_pipe.proofs.recalled.sift_piece.Goals as goal

@@ -10,11 +10,8 @@ low c = let inside = c.in-Some.ensures.variant.0 refl in omega (arith, inside, c
 there : (c : In-Some-found) → slice_get c.args.indexes.now.items c.args.depth ≡ Some (Some c.in-Some-found.index)
 there c = item_there c.args.indexes.now.items c.args.depth c.in-Some.found.now c.in-Some-found.index (low c) c.in-Some.ensures.value c.in-Some-found.is
 
-pub open-requires-clause-keys : goal.open-requires-clause-keys
-open-requires-clause-keys c = (c.requires c.in-Some-found.index (there (goal.at.open-requires-clause-keys c).In-Some-found)).keys
-
-pub open-requires-clause-kept : goal.open-requires-clause-kept
-open-requires-clause-kept c = (c.requires c.in-Some-found.index (there (goal.at.open-requires-clause-kept c).In-Some-found)).kept
+pub open-requires : goal.open-requires
+open-requires c = (c.requires c.in-Some-found.index (there (goal.at.open-requires c).In-Some-found)).kept
 
 pub returns-in-None-found : goal.returns-in-None-found
 returns-in-None-found c = opened_again c.args.indexes.now.items c.args.depth c.in-Some.found.now c.in-Some.ensures.value
