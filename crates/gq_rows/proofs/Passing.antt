@@ -1,48 +1,41 @@
 -- Rows whose first key tells that they come behind the bar.
-use Rattle.std.proofs.Common.{◌≡◌, ◌<◌, ◌^◌, ℕ, List, [], ◌∷◌, Bool, true, false, Some, None, Option, Ok, refl, sym, ap, subst}
+use Rattle.std.proofs.Common.{◌≡◌, ◌<◌, ◌^◌, ℕ, List, [], false, Some, None, Option, Ok, sym, subst}
 use Rattle.std.specs.Prelude.{IfSome, slice_get}
 use Rattle.gq_base.specs.Plain.{Graph}
-use Rattle.gq_base.specs.Values.{Val, val}
+use Rattle.gq_base.specs.Values.{val}
 use Rattle.gq_base.specs.declared.Value.{Value}
 use Rattle.gq_cells.specs.declared.source.Source.{Source}
 use Rattle.gq_eval.specs.Asked.{asked}
 use Rattle.gq_expr.specs.Meaning.{meaning}
 use Rattle.gq_expr.specs.Reading as reading
 use Rattle.gq_group.specs.declared.chunk.Chunk.{Chunk}
-use Rattle.gq_kept.specs.Forms.{HasForm, PushesHeld}
-use Rattle.gq_kept.specs.Tables.{Pushes, StandsForSome, Table, is_full_table, outcome_numbered}
+use Rattle.gq_kept.specs.Forms.{HasForm}
+use Rattle.gq_kept.specs.Tables.{Pushes, StandsForSome, is_full_table, outcome_numbered}
 use Rattle.gq_kept.specs.declared.form.Form.TheVariants as form
 use Rattle.gq_kept.specs.declared.refusal.More.TheVariants as more
 use Rattle.gq_listed.specs.Finding.{IsFinder}
 use Rattle.gq_listed.specs.Keys.{FindsSome}
 use Rattle.gq_listed.specs.Leads.{IsLed}
-use Rattle.gq_listed.specs.Listed.{is_listing}
 use Rattle.gq_listed.specs.declared.finder.Finder.{Finder}
 use Rattle.gq_plan.specs.Outcomes.{outcome_by}
 use Rattle.gq_plan.specs.declared.bound.Bound.{Bound}
 use Rattle.gq_plan.specs.declared.bound.SortExpr.{SortExpr}
 use Rattle.gq_plan.specs.declared.typed.Typed.{Typed}
+use Rattle.gq_project.specs.declared.judging.Question.{Question}
 use Rattle.gq_values.specs.Keeping.{PushesBy, held_of}
 use Rattle.gq_values.specs.Sure.{AreSure, StartsWith}
-use Rattle.gq_rows.specs.declared.table.RowTable.TheInside.{Inside}
-use Rattle.gq_rows.specs.steps.Inner.{table_of}
+use Rattle.gq_values.specs.declared.held.Rows.{Rows}
+use Rattle.gq_rows.specs.steps.Sinks.{table_by}
 use Rattle.gq_rows.specs.steps.Keyed.{IsLeading, IsLedValue}
-use Rattle.gq_rows.proofs.Insides.{asked_same}
-use Rattle.gq_rows.proofs.TwoForms.{inside_valued, pushed_rows, rows_view}
+use Rattle.gq_rows.proofs.Insides.{pushed_by}
 
 -- a row that is passed over is a row that was pushed
-pub passed : (t : Inside) (old : Table) (n : ℕ) (g : Graph) (y : Typed) (here : reading.Assignment) (v : Value) → table_of t ≡ old → is_listing old.bound ≡ false → t.limit < 2 ^ 32 → HasForm t.bound.now t.form → is_full_table old ≡ false → StandsForSome old → t.form ≡ form.Top n
-    → (AreSure t.bound.now → StartsWith g here t.bound.now (val v) → PushesBy (form.Top n) t.bound.now t.limit (outcome_by g t.bound.now [] here) t.rows t.rows (Ok more.Go))
-    → IsLedValue g old.bound y here v → Pushes (outcome_numbered g old.bound y.late here) old old (Ok more.Go)
-passed t old n g y here v view valued small form_is room some is pushes led =
-    let e = inside_valued t old view valued in
-    let same : t.bound.now ≡ old.bound = ap (λ (x : Table). x.bound) view in
-    let sure = subst AreSure (sym same) led.sure in
-    let starts = subst (λ b. StartsWith g here b (val v)) (sym same) led.starts in
-    let held = asked_same g [] here t old (held_of t.rows) (rows_view t old view e) (form.Top n) (held_of t.rows) (Ok more.Go) (pushes sure starts) in
-    let p : Pushes (outcome_numbered g old.bound [] here) old (table_of t) (Ok more.Go) =
-    pushed_rows (outcome_numbered g old.bound [] here) t old (form.Top n) t.rows (Ok more.Go) view e small form_is room some is held in
-    subst (λ l. Pushes (outcome_numbered g old.bound l here) old old (Ok more.Go)) (sym led.late) (subst (λ x. Pushes (outcome_numbered g old.bound [] here) old x (Ok more.Go)) view p)
+pub passed : (q : Question) (n : ℕ) (y : Typed) (here : reading.Assignment) (v : Value) (rows : Rows) → q.limit < 2 ^ 32 → HasForm q.bound.now (form.Top n) → StandsForSome (table_by q (held_of rows)) → is_full_table (table_by q (held_of rows)) ≡ false
+    → (AreSure q.bound.now → StartsWith q.graph.now here q.bound.now (val v) → PushesBy (form.Top n) q.bound.now q.limit (outcome_by q.graph.now q.bound.now [] here) rows rows (Ok more.Go))
+    → IsLedValue q.graph.now q.bound.now y here v → Pushes (outcome_numbered q.graph.now q.bound.now y.late here) (table_by q (held_of rows)) (table_by q (held_of rows)) (Ok more.Go)
+passed q n y here v rows small form_is some room pushes led =
+    subst (λ l. Pushes (outcome_numbered q.graph.now q.bound.now l here) (table_by q (held_of rows)) (table_by q (held_of rows)) (Ok more.Go)) (sym led.late)
+    (pushed_by q (form.Top n) (held_of rows) small form_is some room (outcome_numbered q.graph.now q.bound.now [] here) (held_of rows) (Ok more.Go) (pushes led.sure led.starts))
 
 module _ (g : Graph) (b : Bound) (y : Typed) (c : Chunk) (ss : List Source) where
   -- what finds the first key, if anything does

@@ -4,14 +4,18 @@ ghost use Rattle.gq_kept.specs.Answers.{Lists, at_most, columns_of, most_listed,
 ghost use Rattle.gq_kept.specs.Tables.{AnswersListings, Holds, StandsForSome};
 ghost use Rattle.gq_listed.specs.Listed.{held_in, is_listing};
 ghost use Rattle.gq_plan.specs.Outcomes.{Row};
+ghost use Rattle.gq_rows.specs.steps.Sinks.{held_by, is_listed};
 ghost use Rattle.gq_rows.specs.steps.Arranging.{ArrangesRows, ChoosesRows, IsWindowOf, ListsRows};
 ghost use Rattle.gq_values.specs.Keeping.{HoldsOf, held_of};
 ghost use Rattle.gq_values.specs.Sorting.{HasFirsts};
 
+use crate::listed_rows::ListedRows;
 use crate::listing::{Lines, Listing, Values};
+use crate::sink::Sink;
 use crate::table::RowTable;
+use crate::top_rows::TopRows;
 use gq_base::Memory;
-use gq_listed::{Listed, is_listing};
+use gq_listed::Listed;
 use gq_plan::Bound;
 use gq_values::{Rows, first_rows, sort};
 use std::alloc::Global;
@@ -72,13 +76,20 @@ fn window_of<'g>(bound: &Bound, rows: Rows<'g>) -> Lines<'g>
 }
 
 // The lines of the rows that are listed as they come.
-fn lines_of<'g>(bound: &Bound, listed: Listed<'g>) -> Lines<'g>
+fn listed_lines<'g>(bound: &Bound, rows: ListedRows<'g>) -> Lines<'g>
     requires listing { is_listing bound.now ≡ true }
-    requires holds { (list : List Row) × Holds bound.now list (held_in listed) }
-    ensures lists { (list : List Row) → Holds bound.now list (held_in listed.entry)
+    requires holds { (list : List Row) × Holds bound.now list (held_in rows.listed) }
+    ensures lists { (list : List Row) → Holds bound.now list (held_in rows.entry.listed)
         → Lists bound.now list result }
     ensures wide { All (λ line. length line ≡ length bound.now.columns) result }
 {
+    let ListedRows {
+        form: _,
+        listed,
+        done: _,
+        finders: _,
+        held: _,
+    } = rows;
     let Listed { cells, count } = listed;
     // The number of values fits its type.
     let _ = cells.len();
@@ -112,6 +123,23 @@ fn listing_of<'g>(alloc: Global, bound: &Bound, rows: Rows<'g>) -> Result<Lines<
     arranged_window(alloc, bound, all)
 }
 
+// The lines of a sink.
+fn lines_in<'g>(alloc: Global, bound: &Bound, sink: Sink<'g>) -> Result<Lines<'g>, Memory>
+    requires listing { is_listing bound.now ≡ is_listed sink }
+    requires holds { (list : List Row) × Holds bound.now list (held_by sink) }
+    ensures lists { IfOk result (λ lines. (list : List Row) →
+        Holds bound.now list (held_by sink.entry) → Lists bound.now list lines) }
+    ensures wide { IfOk result (λ lines.
+        All (λ line. length line ≡ length bound.now.columns) lines) }
+{
+    match sink {
+        Sink::Listed(rows) => Ok(listed_lines(bound, rows)),
+        Sink::Kept(rows) => listing_of(alloc, bound, rows),
+        Sink::Top(TopRows { most: _, rows }) => listing_of(alloc, bound, rows),
+        Sink::Classes(rows) => listing_of(alloc, bound, rows),
+    }
+}
+
 impl<'g> RowTable<'g> {
     /// The lines that answer the listings of outcomes that the table stands for. A table that
     /// refused an assignment stands for none.
@@ -128,26 +156,14 @@ impl<'g> RowTable<'g> {
             typed: _,
             graph: _,
             limit: _,
-            form: _,
             sure: _,
-            rows,
-            listed,
-            done: _,
-            finders: _,
-            held: _,
+            sink,
             reading: _,
             first: _,
             pushed,
             choice: _,
         } = self;
-        if is_listing(bound) {
-            return Ok(Listing {
-                lines: lines_of(bound, listed),
-                columns: bound.columns.len(),
-                pushed,
-            });
-        }
-        match listing_of(alloc, bound, rows) {
+        match lines_in(alloc, bound, sink) {
             Ok(lines) => Ok(Listing {
                 lines,
                 columns: bound.columns.len(),

@@ -7,21 +7,21 @@ ghost use Rattle.gq_kept.specs.Chunks.{IsChunkIn, PushesAdmitted, PushesAll, Pus
 ghost use Rattle.gq_kept.specs.Chunks.{admitted_outcomes, counted};
 ghost use Rattle.gq_kept.specs.Tables.{IsSameQuery, Pushes, StandsFor, StandsForSome};
 ghost use Rattle.gq_kept.specs.Tables.{is_full_table};
+ghost use Rattle.gq_outer.specs.Rows.{read};
 ghost use Rattle.gq_plan.specs.Marked.{Marked, ending};
 ghost use Rattle.gq_rows.specs.Growing.{IsContinued, IsTested};
-ghost use Rattle.gq_outer.specs.Rows.{read};
 
-use gq_cells::Cells;
-use gq_classes::Classes;
+use crate::choices::push_choices;
+use crate::sink::Sink;
 use gq_expr::Fault;
 use gq_group::{Choice, Chunk};
-use gq_kept::{Form, More, RowRefusal, form_of};
-use gq_listed::{Finder, KeyFinder, Listed, is_listing};
+use gq_kept::{More, RowRefusal};
+use gq_listed::KeyFinder;
 use gq_outer::WideRow;
 use gq_plan::{Bound, Typed};
-use gq_project::{Admits, Everything, Reading};
+use gq_project::{Admits, Everything, Question, Reading};
 use gq_store::Graph;
-use gq_values::{Rows, are_sure};
+use gq_values::are_sure;
 use std::alloc::Global;
 use std::marker::Model;
 use std::mem;
@@ -38,18 +38,9 @@ pub struct RowTable<'g> {
     pub(crate) typed: Option<&'g Typed>,
     pub(crate) graph: &'g Graph,
     pub(crate) limit: u32,
-    pub(crate) form: Form,
     // Each column and each key is sure to have a value.
     pub(crate) sure: bool,
-    pub(crate) rows: Rows<'g>,
-    // The rows of a query without DISTINCT and without ORDER BY.
-    pub(crate) listed: Listed<'g>,
-    // Whether the finders of the alternative stand here, which find the values of the columns of such
-    // rows.
-    pub(crate) done: bool,
-    pub(crate) finders: Vec<Finder>,
-    // The finders as they were for the last chunk.
-    pub(crate) held: Vec<Finder>,
+    pub(crate) sink: Sink<'g>,
     pub(crate) reading: Reading<'g>,
     // What finds the value of the first key, for the alternative.
     pub(crate) first: KeyFinder<'g>,
@@ -91,22 +82,8 @@ impl<'g> RowTable<'g> {
             typed: None,
             graph,
             limit,
-            form: form_of(bound),
             sure: are_sure(bound),
-            rows: Rows {
-                columns: Vec::new(alloc),
-                keys: Vec::new(alloc),
-                count: 0,
-                seen: Classes::new(alloc),
-                bar: None,
-            },
-            listed: Listed {
-                cells: Cells::new(alloc),
-                count: 0,
-            },
-            done: false,
-            finders: Vec::new(alloc),
-            held: Vec::new(alloc),
+            sink: Sink::new(alloc, bound, graph),
             reading: Reading::new(alloc),
             first: KeyFinder::new(alloc),
             pushed: 0,
@@ -120,7 +97,7 @@ impl<'g> RowTable<'g> {
         ensures { self.new ≡ record self.old { alternative = Some typed.now } }
     {
         self.typed = Some(typed);
-        self.done = false;
+        self.sink.start_alternative();
         self.first.finder = None;
     }
 
@@ -218,14 +195,19 @@ impl<'g> RowTable<'g> {
             Some(fault) => return Err(RowRefusal::Fault(fault)),
             None => {}
         }
-        if is_listing(self.bound) {
-            return self.push_alone(row, typed);
-        }
-        self.push_judged(row)
+        self.reading.prepare(self.alloc, self.bound, self.graph)?;
+        let question = Question {
+            graph: self.graph,
+            bound: self.bound,
+            late: &[],
+            limit: self.limit,
+            sure: self.sure,
+            reading: &self.reading,
+        };
+        self.sink.push(self.alloc, &question, typed, row)
     }
 
-    // Takes the admitted assignments of the choices from the one that stands on, as the query's
-    // rows are held.
+    // Takes the admitted assignments of the choices from the one that stands on.
     fn push_found<A: Admits>(
         &mut self,
         choice: &mut Choice,
@@ -244,32 +226,25 @@ impl<'g> RowTable<'g> {
         ensures query { OnOk result (IsSameQuery self.old self.new) }
         ensures pushed { OnOk result (self.new.pushed ≡ self.old.pushed) }
     {
-        if is_listing(self.bound) {
-            return self.push_listed(choice, chunk, typed, admits);
-        }
-        let graph = self.graph;
-        let mut reading = mem::replace(&mut self.reading, Reading::new(self.alloc));
-        reading.prepare(self.alloc, self.bound, graph)?;
-        let mut first = mem::replace(&mut self.first, KeyFinder::new(self.alloc));
-        let lead = self.lead_first(&mut first, chunk, typed, graph, choice.positions())?;
-        match self.push_choices(choice, chunk, &reading, &first, lead, typed, graph, admits) {
-            Ok(more) => {
-                self.reading = reading;
-                self.first = first;
-                Ok(more)
-            }
-            Err(refusal) => Err(refusal),
-        }
-    }
-
-    // How many rows are held.
-    fn count(&self) -> usize
-        ensures { result ≡ self.now.held.count }
-    {
-        if is_listing(self.bound) {
-            return self.listed.count;
-        }
-        self.rows.count
+        self.reading.prepare(self.alloc, self.bound, self.graph)?;
+        let question = Question {
+            graph: self.graph,
+            bound: self.bound,
+            late: typed.late.as_slice(),
+            limit: self.limit,
+            sure: self.sure,
+            reading: &self.reading,
+        };
+        push_choices(
+            &mut self.sink,
+            &mut self.first,
+            self.alloc,
+            &question,
+            typed,
+            choice,
+            chunk,
+            admits,
+        )
     }
 
     /// Whether further assignments cannot change what the table answers: with LIMIT, but neither
@@ -277,10 +252,8 @@ impl<'g> RowTable<'g> {
     pub fn enough(&self) -> bool
         ensures { result ≡ is_full_table self.now }
     {
-        let count = self.count();
-        match self.form {
-            Form::First(n) => count >= n,
-            Form::All | Form::Top(_) | Form::Classes => false,
-        }
+        // The number of rows fits its type.
+        let _ = self.sink.count();
+        self.sink.is_full()
     }
 }
