@@ -5,6 +5,7 @@ use Rattle.std.proofs.lemmas.Bool.{eqb-true}
 use Rattle.std.proofs.Math.Dec.{eqb-suc-suc, eqb-suc-zero, eqb-zero-suc}
 use Rattle.std.proofs.lemmas.Bool.Decides.{nat_tests}
 use Rattle.gq_plan.specs.Assignments.{Assignment, row_of}
+use Rattle.gq_plan.specs.declared.Typed.{Typed}
 use Rattle.gq_outer.specs.Rows.{Wide, item_at, read}
 use Rattle.gq_drain.specs.steps.Behind.{IsBlankFrom}
 use Rattle.gq_drain.specs.steps.Copied.{Copies}
@@ -90,6 +91,23 @@ both_copied t n m k l old mid new nodes_are rels_are blank nodes rels_stay rels 
     let ns = subst (λ xs. Copies (row_of t).nodes (length t.nodes) old.nodes xs) (sym nodes_stay) (subst (λ c. Copies (row_of t).nodes c old.nodes mid.nodes) nodes_are nodes) in
     let rs = subst (λ xs. Copies (row_of t).rels (length t.rels) xs new.rels) rels_stay (subst (λ c. Copies (row_of t).rels c mid.rels new.rels) rels_are rels) in
     (reads t n m old new blank ns rs, blank_still t n m old new blank ns rs)
+
+-- so for the variables of an alternative
+pub row_copied : (t : Assignment) (y : Typed) (n m k l : ℕ) (old mid new : Wide) → length t.nodes ≡ length y.nodes → length t.rels ≡ length y.rels → k ≡ length y.nodes → l ≡ length y.rels
+    → IsBlankFrom (length y.nodes) (length y.rels) n m old
+    → Copies (row_of t).nodes k old.nodes mid.nodes → mid.rels ≡ old.rels → Copies (row_of t).rels l mid.rels new.rels → new.nodes ≡ mid.nodes
+    → (read new ≡ row_of t) × IsBlankFrom (length y.nodes) (length y.rels) n m new
+row_copied t y n m k l old mid new nodes_are rels_are k_is l_is blank nodes rels_stay rels nodes_stay =
+    let own = subst (λ a. IsBlankFrom a (length t.rels) n m old) (sym nodes_are) (subst (λ b. IsBlankFrom (length y.nodes) b n m old) (sym rels_are) blank) in
+    let copied = both_copied t n m k l old mid new (k_is ∙ sym nodes_are) (l_is ∙ sym rels_are) own nodes rels_stay rels nodes_stay in
+    (copied.0, subst (λ a. IsBlankFrom a (length y.rels) n m new) nodes_are (subst (λ b. IsBlankFrom (length t.nodes) b n m new) rels_are copied.1))
+
+-- told of as many variables as the row has, and of as many as it should have
+pub own_blank : (k l n m : ℕ) (w : Wide) → IsBlankFrom k l n m w → IsBlankFrom k l (length w.nodes) (length w.rels) w
+own_blank k l n m w h = record { nodes = refl; rels = refl; no_node = h.no_node; no_rel = h.no_rel }
+
+pub blank_as : (k l n m : ℕ) (old new : Wide) → IsBlankFrom k l n m old → IsBlankFrom k l (length old.nodes) (length old.rels) new → IsBlankFrom k l n m new
+blank_as k l n m old new was is = record { nodes = is.nodes ∙ was.nodes; rels = is.rels ∙ was.rels; no_node = is.no_node; no_rel = is.no_rel }
 
 -- ---- a new row
 

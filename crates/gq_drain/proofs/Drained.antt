@@ -11,6 +11,7 @@ use Rattle.gq_group.specs.Chunks.{IsChunkOf, assignment_at}
 use Rattle.gq_group.specs.Groups.{choices}
 use Rattle.gq_group.specs.declared.chunk.Chunk.{Chunk}
 use Rattle.gq_law_answers.proofs.Made.{plain_late_rows}
+use Rattle.gq_law_plans.specs.Safe.{IsMade}
 use Rattle.gq_law_plans.proofs.Reordered.{permuted_flat_map}
 use Rattle.gq_pipe.specs.Progress.{Source}
 use Rattle.gq_pipe.specs.Rest.{Rest}
@@ -29,7 +30,7 @@ use Rattle.gq_alternatives.proofs.Shapes.{each_left, each_right}
 use Rattle.gq_kept.specs.Answers.{kept, looked_at, rows_in}
 use Rattle.gq_kept.specs.Chunks as chunks
 use Rattle.gq_kept.specs.Chunks.{IsChunkIn, Stands, admitted_outcomes, assignments_of}
-use Rattle.gq_kept.specs.Tables.{Table, is_full_table}
+use Rattle.gq_kept.specs.Tables.{IsSameQuery, Table, is_full_table}
 use Rattle.gq_kept.specs.declared.refusal.More.{More}
 use Rattle.gq_kept.specs.declared.refusal.RowRefusal.{RowRefusal}
 use Rattle.gq_kept.specs.declared.refusal.RowRefusal.TheVariants as row_refusal
@@ -228,14 +229,33 @@ pushes_here admitted g b y mid new c r graph same started h =
     subst (λ os. chunks.PushesAll os mid new r) (outcomes_here admitted g b y mid.bound mid.alternative c same started)
     (subst (λ k. chunks.PushesAdmitted admitted k c mid new r) graph h)
 
-pub chunk_of : (g : Graph) (y : Typed) (s : Source) (c : Chunk) → s.graph ≡ g → s.typed ≡ y → IsChunkOf s.graph s.typed c → IsChunkOf g y c
-chunk_of g y s c graph typed h = subst (λ z. IsChunkOf g z c) typed (subst (λ k. IsChunkOf k s.typed c) graph h)
+-- what a table answers to it, told of the graph, the query and the outcomes that were begun with
+pub taken_here : (f h : Becomes) (g : Graph) (b : Bound) (mid new : Table) (c : Chunk) (y : Typed) (r : Result More RowRefusal) → f ≡ h → mid.graph ≡ g → mid.bound ≡ b
+    → chunks.PushesAll (outcomes_by f mid.graph mid.bound y (assignments_of mid.graph y c)) mid new r → chunks.PushesAll (outcomes_by h g b y (assignments_of g y c)) mid new r
+taken_here f h g b mid new c y r becomes graph same given =
+    subst (λ os. chunks.PushesAll os mid new r) (λ i. outcomes_by (becomes i) (graph i) (same i) y (assignments_of (graph i) y c)) given
 
--- what a table answers to its outcomes, told of the query and of the alternative that were begun with
-pub rows_here : (becomes : Becomes) (g : Graph) (b : Bound) (y z : Typed) (c : Chunk) (mid new : Table) (r : Result More RowRefusal) → mid.bound ≡ b → z ≡ y
-    → chunks.PushesAll (outcomes_by becomes g mid.bound z (assignments_of g z c)) mid new r → chunks.PushesAll (outcomes_by becomes g b y (assignments_of g y c)) mid new r
-rows_here becomes g b y z c mid new r same typed h =
-    subst (λ q. chunks.PushesAll (outcomes_by becomes g q y (assignments_of g y c)) mid new r) same (subst (λ v. chunks.PushesAll (outcomes_by becomes g mid.bound v (assignments_of g v c)) mid new r) typed h)
+-- the alternative that was started is one
+pub same_alternative : (o : Option Typed) (y z : Typed) → o ≡ Some y → o ≡ Some z → y ≡ z
+same_alternative o y z is other = let same : y ≡ z = cc in same
+
+pub made_here : (g k : Graph) (y z : Typed) (o : Option Typed) (c : Chunk) → k ≡ g → o ≡ Some y → AllByRecursion (IsMade g y) (assignments_of g y c) → o ≡ Some z
+    → AllByRecursion (IsMade k z) (assignments_of k z c)
+made_here g k y z o c graph is made other =
+    let same = same_alternative o y z is other in
+    subst (λ v. AllByRecursion (IsMade k v) (assignments_of k v c)) same (subst (λ x. AllByRecursion (IsMade x y) (assignments_of x y c)) (sym graph) made)
+
+-- what is so of the table that was begun with is so of one of the same query, and the other way round
+pub ready_here : (R : Graph → Bound → Option Typed → Type 0) (old mid : Table) → IsSameQuery old mid → R old.graph old.bound old.alternative → R mid.graph mid.bound mid.alternative
+ready_here R old mid s h =
+    subst (λ k. R k mid.bound mid.alternative) (sym s.graph) (subst (λ b. R old.graph b mid.alternative) (sym s.bound) (subst (R old.graph old.bound) (sym s.alternative) h))
+
+pub ready_back : (R : Graph → Bound → Option Typed → Type 0) (old mid : Table) → IsSameQuery old mid → R mid.graph mid.bound mid.alternative → R old.graph old.bound old.alternative
+ready_back R old mid s h = subst (λ k. R k old.bound old.alternative) s.graph (subst (λ b. R mid.graph b old.alternative) s.bound (subst (R mid.graph mid.bound) s.alternative h))
+
+-- a chunk of it is one of the alternative
+pub chunk_of : (g k : Graph) (y : Typed) (o : Option Typed) (c : Chunk) → k ≡ g → o ≡ Some y → IsChunkIn k o c → IsChunkOf g y c
+chunk_of g k y o c graph is h = subst (λ x. IsChunkOf x y c) graph (subst (λ p. IsChunkIn k p c) is h)
 
 -- what is so of all assignments that are owed is so of those of the chunk and of those that are owed after it
 pub each_parted : (P : Assignment → Type 0) (y : Typed) (now after : Rest) (here : List Assignment) → IsPermutation now.owed (after.chunk ++ after.owed)

@@ -4,6 +4,6 @@ pub mod Chosen
 pub mod Continuing
 pub mod Copying
 pub mod Drained
+pub mod Ended
 pub mod Judging
 pub mod Pushing
-pub mod Reaching

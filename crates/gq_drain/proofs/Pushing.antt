@@ -1,6 +1,5 @@
 -- What a table has taken of outcomes that are pushed one after another, and what the optional clauses make of a row that is marked.
-use Rattle.std.proofs.Common.{◌≡◌, ◌∙◌, ℕ, zero, suc, ◌<◌, ap, refl, sym, subst, arith, true, false, Option, Some, None, List, [], ◌∷◌, ◌++◌, append_assoc, append-nil, map, Result, Ok, Err}
-use Rattle.std.specs.Option.{is_some}
+use Rattle.std.proofs.Common.{◌≡◌, ◌∙◌, ℕ, zero, suc, ◌<◌, ap, refl, sym, subst, arith, true, false, Option, Some, List, [], ◌∷◌, ◌++◌, append_assoc, append-nil, Result, Ok, Err}
 use Rattle.std.specs.Prelude.{OnOk}
 use Rattle.std.specs.List.{Contains}
 use Rattle.gq_base.specs.Plain.{Graph}
@@ -22,8 +21,7 @@ use Rattle.gq_kept.specs.declared.refusal.RowRefusal.{RowRefusal}
 use Rattle.gq_kept.specs.declared.refusal.RowRefusal.TheVariants as row_refusal
 use Rattle.gq_outer.specs.Clauses.{after_clause, after_clauses}
 use Rattle.gq_outer.specs.Rows.{Wide, read}
-use Rattle.gq_drain.specs.Becoming.{outcomes_behind}
-use Rattle.gq_drain.specs.steps.Behind.{Taken}
+use Rattle.gq_drain.specs.steps.Taken.{Taken}
 
 -- ---- one outcome, and none
 
@@ -120,23 +118,10 @@ module _ (all : List (Result Row Fault)) (old : Table) where
 
 -- ---- a row that is marked
 
-marked_stays : (g : Graph) (known : List ℕ) (parts : List OptionalPart) (mss : List (List Assignment)) (row : reading.Assignment) (f : Fault)
+-- it stays as it is
+pub marked_stays : (g : Graph) (known : List ℕ) (parts : List OptionalPart) (mss : List (List Assignment)) (row : reading.Assignment) (f : Fault)
     → after_clauses g known parts mss (record { row = row; mark = Some f }) ≡ record { row = row; mark = Some f } ∷ []
 unfolding after_clauses after_clause
 marked_stays g known [] mss row f = refl
 marked_stays g known (p ∷ ps) [] row f = refl
 marked_stays g known (p ∷ ps) (ms ∷ mss) row f = append-nil _ ∙ marked_stays g (known ++ p.nodes) ps mss row f
-
-marked_behind : (g : Graph) (b : Bound) (known : List ℕ) (mss : List (List Assignment)) (row : reading.Assignment) (f : Fault)
-    → outcomes_behind g b known mss (record { row = row; mark = Some f }) ≡ ending g b (record { row = row; mark = Some f }) ∷ []
-marked_behind g b known mss row f = ap (map (ending g b)) (marked_stays g known b.optionals mss row f)
-
--- so is one that has a mark, and without a mark it goes on
-pub mark_behind : (g : Graph) (b : Bound) (known : List ℕ) (mss : List (List Assignment)) (row : reading.Assignment) (mark : Option Fault) → true ≡ is_some mark
-    → ending g b (record { row = row; mark = mark }) ∷ [] ≡ outcomes_behind g b known mss (record { row = row; mark = mark })
-mark_behind g b known mss row None e = absurd (cc e)
-mark_behind g b known mss row (Some f) e = sym (marked_behind g b known mss row f)
-
-pub no_mark : (mark : Option Fault) → false ≡ is_some mark → None ≡ mark
-no_mark None e = refl
-no_mark (Some f) e = absurd (cc e)

@@ -5,6 +5,8 @@
 #![tactic(auto)]
 
 mod behind;
+mod chunks;
+mod continues;
 mod copied;
 mod draining;
 mod late;
