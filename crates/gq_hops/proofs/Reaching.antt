@@ -1,5 +1,5 @@
 -- Breadth-first search meets the nodes to which relationships lead, each once.
-use Rattle.std.proofs.Common.{◌≡◌, ℕ, zero, suc, ◌+◌, ◌-◌, ◌<◌, ◌≤◌, Bool, true, false, not, ◌&&◌, ◌||◌, cond, Option, Some, None, List, [], ◌∷◌, ◌++◌, take, drop, filter, length, get_or, refl, sym, ap, ◌∙◌, subst, arith, true≢false, append_assoc, append-nil}
+use Rattle.std.proofs.Common.{◌≡◌, ℕ, zero, suc, ◌+◌, ◌-◌, ◌<◌, ◌≤◌, Bool, true, false, not, ◌&&◌, ◌||◌, cond, Option, Some, None, List, [], ◌∷◌, ◌++◌, take, drop, filter, length, get_or, refl, sym, ap, ap₂, ◌∙◌, subst, arith, true≢false, append_assoc, append-nil}
 use Rattle.std.specs.Prelude.{if◌then◌else◌}
 use Rattle.std.specs.List.{list_any}
 use Rattle.std.proofs.lemmas.Bool.{and_from, and_parts}
@@ -24,8 +24,9 @@ use Rattle.gq_hops.specs.Law.{SpreadsAsLed}
 use Rattle.gq_hops.specs.Levels.{ends_met, is_met, met_all, spread_each, spread_levels, spread_over, with_end}
 use Rattle.gq_hops.specs.declared.follow.Follow.{Follow}
 use Rattle.gq_hops.specs.declared.follow.Hop.{Hop}
+use Rattle.gq_hops.specs.declared.follow.Level.{Level as At}
 use Rattle.gq_hops.specs.declared.follow.Met.{Met}
-use Rattle.gq_hops.specs.steps.Hops.{IsHop}
+use Rattle.gq_hops.specs.steps.Hops.{IsHop, IsMetNext, left_of}
 use Rattle.gq_hops.specs.steps.Sizes.{AreNodes}
 use Rattle.gq_marks.specs.Visiting.{with_node}
 
@@ -175,6 +176,13 @@ module _ (g : Graph) (kind : List ℕ) (way : Direction) (used : List RelId) whe
 
   -- ---- levels
 
+  -- where one of so many levels is spread, one less is left
+  pub next_levels : (high level next stop : ℕ) (mid new : List NodeId) → level < high → stop ≡ length mid → new ≡ spread_each g kind way used mid (drop next mid)
+      → spread_levels g kind way used (high - (level + 1)) stop new ≡ spread_levels g kind way used (high - level) next mid
+  next_levels high level next stop mid new low at spread =
+      let left : high - level ≡ suc (high - (level + 1)) = omega (arith, low) in
+      ap₂ (spread_levels g kind way used (high - (level + 1))) at spread ∙ ap (λ k. spread_levels g kind way used k next mid) (sym left)
+
   -- these are the nodes to which so many lead, and from the first of them all was tried
   record Level (high : ℕ) (at : NodeId) (next : ℕ) (ns : List NodeId) : Type 0 where
     pub distinct : all_distinct same_node ns ≡ true
@@ -251,9 +259,16 @@ pub none_used : (r : RelId) (used : List RelId) → used ≡ [] → false ≡ li
 none_used r used none = ap (list_any (same_rel r)) (sym none)
 
 -- a relationship that is used is passed, and another meets the node to which it leads
-pub over_next : (g : Graph) (way : Direction) (used : List RelId) (ns : List NodeId) (r : RelId) (rs : List RelId) (n : NodeId) → far g way r ≡ Some n
+over_next : (g : Graph) (way : Direction) (used : List RelId) (ns : List NodeId) (r : RelId) (rs : List RelId) (n : NodeId) → far g way r ≡ Some n
     → spread_over g way used ns (r ∷ rs) ≡ spread_over g way used (if list_any (same_rel r) used then ns else with_node ns n) rs
 over_next g way used ns r rs n leads = ap (λ o. spread_over g way used (if list_any (same_rel r) used then ns else with_end ns o) rs) leads
+
+-- what a level meets next is passed where it is used, and else its node is met
+pub passed_by : (f : Follow) (used : List RelId) (ns : List NodeId) {old new : At} (m : Met) (next : IsMetNext f old new m)
+    → spread_over f.graph.now f.way used (if list_any (same_rel next.hop.rel) used then ns else with_node ns m.node) (left_of f new) ≡ spread_over f.graph.now f.way used ns (left_of f old)
+passed_by f used ns {old} {new} m next =
+    sym (over_next f.graph.now f.way used ns next.hop.rel (left_of f new) m.node (next.first.leads ∙ ap Some next.is.node))
+    ∙ ap (spread_over f.graph.now f.way used ns) (sym next.first.left)
 
 -- one more node of the graph is met, or none
 pub nodes_more : (g : Graph) (ns : List NodeId) (n : NodeId) → is_node g n ≡ true → AreNodes g ns → AreNodes g (with_node ns n)

@@ -12,8 +12,8 @@ use Rattle.gq_law_trails.specs.Bounds.{AreBounds, comes, may_end_at}
 use Rattle.gq_law_trails.specs.Walks.{end_of}
 use Rattle.gq_hops.specs.Walking.{Course}
 use Rattle.gq_marks.specs.Marking.{bound_of}
-use Rattle.gq_hops.specs.steps.Hops.{AreTables, IsFirst, IsHop, IsLevelIn, IsSiteIn, IsStart, left_at, left_of, rel_of, same_site, tables_in}
-use Rattle.gq_hops.specs.steps.Searches.{IsEnd, IsNext, IsOpen, IsPassed, IsPassedTo, IsRoomy, IsSeen, IsSiteAt, IsSiteOf, IsSpent, IsTaken, Run, behind, kept_by, left_in, level_at, met_at, no_level, no_met, onto, owed_by, rel_at, rels_in, run_of, taken, with_level, with_step}
+use Rattle.gq_hops.specs.steps.Hops.{AreTables, IsFirst, IsHop, IsLevel, IsLevelIn, IsSiteIn, IsStart, left_at, left_of, rel_of, same_site, tables_in}
+use Rattle.gq_hops.specs.steps.Searches.{IsEnd, IsLonger, IsNext, IsOpen, IsPassed, IsPassedTo, IsRoomy, IsSeen, IsSiteAt, IsSiteOf, IsSpent, IsTaken, Run, behind, kept_by, left_in, level_at, met_at, no_level, no_met, onto, owed_by, rel_at, rels_in, run_of, taken, with_level, with_step}
 use Rattle.gq_hops.specs.declared.follow.Hop.{Hop}
 use Rattle.gq_hops.specs.declared.follow.Level.{Level}
 use Rattle.gq_hops.specs.declared.follow.Met.{Met}
@@ -374,3 +374,32 @@ module _ (r : declared.Run) (s mid : Search) (m : Met) (open_at : IsOpen (run_of
   stepped_new new l is =
       subst (λ n. IsStepped r.high (with_level s s.depth t.level) n m l) (sym (is ∙ ap (λ (n : Search). with_step r.high n m l) t.is))
       (stepped r.high (with_level s s.depth t.level) m l (roomy_mid r s open_at t.low t.level seen.hop t.first) open_at.high)
+
+  -- one that is not used makes the walk longer
+  module _ (unused : false ≡ (list_any (same_site m) (take mid.depth mid.mets.items) || list_any (same_rel seen.hop.rel) r.used)) (new : Search) (longer : IsLonger r mid new m) where
+    free : list_any (same_rel seen.hop.rel) (taken r.used (rels_in (run_of r) s) s.depth) ≡ false
+    free = stands_is false unused
+
+    is_longer : IsStepped r.high (with_level s s.depth t.level) new m longer.level
+    is_longer = stepped_new new longer.level longer.is
+
+    same_depth : mid.depth ≡ s.depth
+    same_depth = ap (λ (n : Search). n.depth) t.is
+
+    fits : suc s.depth < r.high → IsLevel r.follow longer.level
+    fits more = longer.fits (omega (arith, more, same_depth))
+
+    start : suc s.depth < r.high → IsStart m.node 0 longer.level
+    start more = longer.start (omega (arith, more, same_depth))
+
+    pub open_longer : IsOpen (run_of r) new
+    open_longer = open_new r s open_at t.low t.level seen.hop t.first free m seen.is site_is new longer.level is_longer fits start
+
+    pub less_longer : weight (run_of r) new.levels.items (suc new.depth) < weight (run_of r) s.levels.items (suc s.depth)
+    less_longer = less_new r s open_at t.low t.level seen.hop t.first free m seen.is site_is new longer.level is_longer fits start
+
+    pub kept_longer : (nat_le r.low new.depth && nat_eq ((run_of r).bounds new.last) 0) ≡ false → kept_by (run_of r) s ≡ kept_by (run_of r) new
+    kept_longer ends = kept_on r s open_at t.low t.level seen.hop t.first free m seen.is site_is new longer.level is_longer fits start ends
+
+    pub next_longer : r.low ≤ new.depth → IsNext (run_of r) s new
+    next_longer enough = at_next r s open_at t.low t.level seen.hop t.first free m seen.is site_is new longer.level is_longer fits start enough

@@ -6,10 +6,7 @@ use Rattle.gq_hops.proofs.reach.reach.Goals as goal
 pub returns-clause-nodes : goal.returns-clause-nodes
 unfolding ends_met
 returns-clause-nodes c =
-    let g = c.args.follow.now.graph.now in
-    let kind = c.args.follow.now.kind.now in
-    let way = c.args.follow.now.way in
-    let used = c.args.used.now in
+    let f = c.args.follow.now in
     c.reach_on.ensures.nodes
-    ∙ ap (spread_levels g kind way used (c.args.high - 1) 0)
-    (c.expand.ensures.nodes ∙ ap (λ (v : Visiting). spread_over g way used v.nodes (met_all g kind way (Some c.args.start))) c.clear.ensures)
+    ∙ ap (spread_levels f.graph.now f.kind.now f.way c.args.used.now (c.args.high - 1) 0)
+    (c.expand.ensures.nodes ∙ ap (λ (v : Visiting). spread_over f.graph.now f.way c.args.used.now v.nodes (met_all f.graph.now f.kind.now f.way (Some c.args.start))) c.clear.ensures)

@@ -8,10 +8,7 @@ use Rattle.gq_hops.proofs.reach.seek.Goals as goal
 pub returns-clause-met : goal.returns-clause-met
 unfolding ends_met
 returns-clause-met c =
-    let g = c.args.follow.now.graph.now in
-    let kind = c.args.follow.now.kind.now in
-    let way = c.args.follow.now.way in
-    let used = c.args.used.now in
+    let f = c.args.follow.now in
     c.seek_on.ensures.met
-    ∙ ap (λ ns. list_any (same_node c.args.end) (spread_levels g kind way used (c.args.high - 1) 0 ns))
-    (c.expand.ensures.nodes ∙ ap (λ (v : Visiting). spread_over g way used v.nodes (met_all g kind way (Some c.args.start))) c.clear.ensures)
+    ∙ ap (λ ns. list_any (same_node c.args.end) (spread_levels f.graph.now f.kind.now f.way c.args.used.now (c.args.high - 1) 0 ns))
+    (c.expand.ensures.nodes ∙ ap (λ (v : Visiting). spread_over f.graph.now f.way c.args.used.now v.nodes (met_all f.graph.now f.kind.now f.way (Some c.args.start))) c.clear.ensures)

@@ -3,10 +3,9 @@ use Rattle.std.proofs.lemmas.Bool.{and_parts}
 use Rattle.std.proofs.lemmas.Bool.Decides.{nat_tests}
 use Rattle.gq_base.specs.declared.NodeId.{NodeId}
 use Rattle.gq_plan.specs.Assignments.{is_node}
-use Rattle.gq_hops.specs.steps.Hops.{IsLevel, IsStart}
-use Rattle.gq_hops.specs.steps.Searches.{IsEnd, IsLonger, IsNext, IsOpen, IsSeen, IsSpent, kept_by, run_of, with_level}
+use Rattle.gq_hops.specs.steps.Searches.{IsEnd, IsOpen, IsSeen, IsSpent, kept_by, run_of, with_level}
 use Rattle.gq_hops.specs.declared.search.Search.{Search}
-use Rattle.gq_hops.proofs.Searching.{at_end, at_next, kept_first, kept_none, kept_on, kept_passed, kept_same, less_mid, less_new, less_passed, less_up, open_mid, open_new, open_passed, open_up, owed_far, owed_mid, owed_up, site_is, stands_is, stepped_new}
+use Rattle.gq_hops.proofs.Searching.{at_end, kept_first, kept_longer, kept_none, kept_passed, kept_same, less_longer, less_mid, less_passed, less_up, next_longer, open_longer, open_mid, open_passed, open_up, owed_far, owed_mid, owed_up, stands_is}
 use Rattle.gq_hops.proofs.Weights.{weight}
 use Rattle.gq_hops.proofs.search.Search.next.Goals as goal
 
@@ -14,68 +13,37 @@ pub returns-then-may_stop : goal.returns-then-may_stop
 returns-then-may_stop c =
     let r = c.args.run.now in
     let s = c.loop-met.self in
-    let open_at = c.loop-met.invariant.open_at in
-    let mid = c.try_next.new.self in
-    let met = c.in-Some.met in
-    let seen : IsSeen r s mid met = c.in-Some.ensures in
-    let hop = seen.hop in
-    let t = seen.taken in
-    let site = site_is r s mid met open_at seen c.requires.tables in
-    let free = stands_is r s mid met open_at seen c.requires.tables false (sym c.if-not-is_used.true ∙ c.is_used.ensures hop seen.is) in
-    let taken : IsLonger r mid c.take.new.self met = c.take.ensures in
-    let is = stepped_new r s mid met open_at seen c.requires.tables c.take.new.self taken.level taken.is in
-    let same = ap (λ (m : Search). m.depth) t.is in
-    let fits : suc s.depth < r.high → IsLevel r.follow taken.level = λ more. taken.fits (omega (arith, more, same)) in
-    let start : suc s.depth < r.high → IsStart met.node 0 taken.level = λ more. taken.start (omega (arith, more, same)) in
-    let both = and_parts (nat_le r.low c.take.new.self.depth) (nat_eq ((run_of r).bounds c.take.new.self.last) 0) (sym c.may_stop.ensures ∙ c.if-may_stop.true) in
+    let new = c.take.new.self in
+    let seen : IsSeen r s c.try_next.new.self c.in-Some.met = c.in-Some.ensures in
+    let unused = sym c.if-not-is_used.true ∙ c.is_used.ensures seen.hop seen.is in
+    let both = and_parts (nat_le r.low new.depth) (nat_eq ((run_of r).bounds new.last) 0) (sym c.may_stop.ensures ∙ c.if-may_stop.true) in
     let enough = both.0 in
-    let next : IsNext (run_of r) s c.take.new.self = at_next r s open_at t.low t.level hop t.first free met seen.is site c.take.new.self taken.level is fits start (grind (arith, nat_tests, enough)) in
+    let next = next_longer r s c.try_next.new.self c.in-Some.met c.loop-met.invariant.open_at seen c.requires.tables unused new c.take.ensures (grind (arith, nat_tests, enough)) in
     record {
       open_at = next.open_at;
-      next = c.loop-met.invariant.owed ∙ kept_first (run_of r) s c.take.new.self next both.1;
+      next = c.loop-met.invariant.owed ∙ kept_first (run_of r) s new next both.1;
       ends = next.ends;
       there = next.there;
     }
 
 pub loop-met-smaller-else-may_stop : goal.loop-met-smaller-else-may_stop
 loop-met-smaller-else-may_stop c =
-    let r = c.args.run.now in
-    let s = c.loop-met.self in
-    let open_at = c.loop-met.invariant.open_at in
-    let mid = c.try_next.new.self in
-    let met = c.in-Some.met in
-    let seen : IsSeen r s mid met = c.in-Some.ensures in
-    let hop = seen.hop in
-    let t = seen.taken in
-    let site = site_is r s mid met open_at seen c.requires.tables in
-    let free = stands_is r s mid met open_at seen c.requires.tables false (sym c.if-not-is_used.true ∙ c.is_used.ensures hop seen.is) in
-    let taken : IsLonger r mid c.take.new.self met = c.take.ensures in
-    let is = stepped_new r s mid met open_at seen c.requires.tables c.take.new.self taken.level taken.is in
-    let same = ap (λ (m : Search). m.depth) t.is in
-    let fits : suc s.depth < r.high → IsLevel r.follow taken.level = λ more. taken.fits (omega (arith, more, same)) in
-    let start : suc s.depth < r.high → IsStart met.node 0 taken.level = λ more. taken.start (omega (arith, more, same)) in
-    less_new r s open_at t.low t.level hop t.first free met seen.is site c.take.new.self taken.level is fits start
+    let seen : IsSeen c.args.run.now c.loop-met.self c.try_next.new.self c.in-Some.met = c.in-Some.ensures in
+    less_longer c.args.run.now c.loop-met.self c.try_next.new.self c.in-Some.met c.loop-met.invariant.open_at seen c.requires.tables
+    (sym c.if-not-is_used.true ∙ c.is_used.ensures seen.hop seen.is) c.take.new.self c.take.ensures
 
 pub loop-met-preserved-else-may_stop : goal.loop-met-preserved-else-may_stop
 loop-met-preserved-else-may_stop c =
     let r = c.args.run.now in
     let s = c.loop-met.self in
-    let open_at = c.loop-met.invariant.open_at in
     let mid = c.try_next.new.self in
-    let met = c.in-Some.met in
-    let seen : IsSeen r s mid met = c.in-Some.ensures in
-    let hop = seen.hop in
-    let t = seen.taken in
-    let site = site_is r s mid met open_at seen c.requires.tables in
-    let free = stands_is r s mid met open_at seen c.requires.tables false (sym c.if-not-is_used.true ∙ c.is_used.ensures hop seen.is) in
-    let taken : IsLonger r mid c.take.new.self met = c.take.ensures in
-    let is = stepped_new r s mid met open_at seen c.requires.tables c.take.new.self taken.level taken.is in
-    let same = ap (λ (m : Search). m.depth) t.is in
-    let fits : suc s.depth < r.high → IsLevel r.follow taken.level = λ more. taken.fits (omega (arith, more, same)) in
-    let start : suc s.depth < r.high → IsStart met.node 0 taken.level = λ more. taken.start (omega (arith, more, same)) in
+    let seen : IsSeen r s mid c.in-Some.met = c.in-Some.ensures in
+    let open_at = c.loop-met.invariant.open_at in
+    let unused = sym c.if-not-is_used.true ∙ c.is_used.ensures seen.hop seen.is in
+    let ends = sym c.may_stop.ensures ∙ c.if-may_stop.false in
     record {
-      open_at = open_new r s open_at t.low t.level hop t.first free met seen.is site c.take.new.self taken.level is fits start;
-      owed = c.loop-met.invariant.owed ∙ kept_on r s open_at t.low t.level hop t.first free met seen.is site c.take.new.self taken.level is fits start (sym c.may_stop.ensures ∙ c.if-may_stop.false);
+      open_at = open_longer r s mid c.in-Some.met open_at seen c.requires.tables unused c.take.new.self c.take.ensures;
+      owed = c.loop-met.invariant.owed ∙ kept_longer r s mid c.in-Some.met open_at seen c.requires.tables unused c.take.new.self c.take.ensures ends;
     }
 
 pub pass_over-requires-clause-open : goal.pass_over-requires-clause-open
