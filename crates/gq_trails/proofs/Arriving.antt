@@ -11,8 +11,9 @@ use Rattle.gq_base.specs.declared.RelId.{RelId}
 use Rattle.gq_base.specs.declared.direction.Direction.{Direction}
 use Rattle.gq_law_ends.specs.Leading.{leads_to}
 use Rattle.gq_law_ends.specs.Reaching.{rows_at}
-use Rattle.gq_law_trails.specs.Trails.{arrivals, arrive_at, fits_end}
+use Rattle.gq_law_trails.specs.Trails.{arrivals, arrive_at, fits_end, taken_in}
 use Rattle.gq_law_trails.specs.Walks.{may_follow}
+use Rattle.gq_ends.specs.Ends.{OtherEnd}
 use Rattle.gq_hops.proofs.Reaching.{spreads_as_led}
 use Rattle.gq_hops.specs.Levels.{ends_met}
 use Rattle.gq_hops.specs.Reaching.{Reaching}
@@ -23,12 +24,15 @@ use Rattle.gq_plan.specs.Allowed.{at_same}
 use Rattle.gq_plan.specs.Assignments.{all_rels, is_node, same_node}
 use Rattle.gq_plan.specs.Meaning.{Partial, far, keep_if, look, with_node}
 use Rattle.gq_plan.specs.declared.TrailPart.{TrailPart}
+use Rattle.gq_plan.specs.declared.TypedRel.{TypedRel}
 use Rattle.gq_outer.specs.Rows.{Wide, item_at}
 use Rattle.gq_trails.specs.Continued.{ends_from, rows_at_ends}
-use Rattle.gq_trails.specs.Trekking.{CanTrek, partial_of}
+use Rattle.gq_trails.specs.Trekking.{CanTrek, partial_of, patterns_in}
+use Rattle.gq_trails.specs.steps.Chained.{barred_behind}
 use Rattle.gq_trails.specs.steps.Ends.{may_end, settled}
 use Rattle.gq_trails.specs.steps.Journeys.{binds, bound_at}
-use Rattle.gq_trails.specs.steps.Reached.{HasEnd, IsSeen, IsSeenBefore, before_end, behind_end}
+use Rattle.gq_trails.specs.steps.Reached.{AreEnds, AreSameEnds, GoesToEnd, HasEnd, IsSeen, IsSeenBefore, before_end, behind_end, left_from}
+use Rattle.gq_trails.specs.declared.reached.Ends.{Ends}
 use Rattle.gq_trails.proofs.Beginning.{look_items}
 use Rattle.gq_trails.proofs.Fitting.{cleared_settled, item_set_other, item_set_same, look_node}
 use Rattle.gq_trails.proofs.Going.{settled_length, settled_rels}
@@ -133,6 +137,68 @@ module _ (g : Graph) (p : TrailPart) (row new : Wide) (end : NodeId) (owed ns : 
   pub next_end : (owed ≡ []) ⊎ (p.to < length row.nodes) → AllByRecursion (λ n. is_node g n ≡ true) owed → HasEnd g p new
   next_end within all = subst (HasEnd g p) (sym is) (end_settled p row end g (low_here within) (next_there all).0)
 
+-- the trail at its next node, with what is left to reach
+module _ {e : Ends} (are : AreEnds e) {n : NodeId} (first : Some n ≡ slice_get e.reacher.owed 0) {r : Reaching} (rest : r ≡ record e.reacher { owed = drop 1 e.reacher.owed })
+    {row : Wide} (is : row ≡ settled e.part.now e.row n) {o : OtherEnd} (same : o ≡ e.end) where
+  left : r.owed ≡ drop 1 e.reacher.owed
+  left = ap (λ (x : Reaching). x.owed) rest
+
+  pub ends_next : AreEnds (record e { reacher = r; row = row; end = o })
+  ends_next = record {
+    graph = ap (λ (x : Reaching). x.graph) rest ∙ are.graph;
+    kind = ap (λ (x : Reaching). x.kind) rest ∙ are.kind;
+    way = ap (λ (x : Reaching). x.way) rest ∙ are.way;
+    high = ap (λ (x : Reaching). x.high) rest ∙ are.high;
+    some = are.some;
+    end = same ∙ are.end;
+    within = next_within e.graph.now e.part.now e.row row n e.reacher.owed r.owed first left is are.within;
+    there = (next_there e.graph.now e.part.now e.row row n e.reacher.owed r.owed first left is are.there).1;
+  }
+
+  module _ (old : Ends) (kept : AreSameEnds old e) where
+    pub same_next : AreSameEnds old (record e { reacher = r; row = row; end = o })
+    same_next = record {
+      graph = kept.graph;
+      part = kept.part;
+      nodes = ap (λ (x : Wide). length x.nodes) is ∙ settled_length e.part.now e.row n ∙ kept.nodes;
+      rels = ap (λ (x : Wide). length x.rels) is ∙ ap length (settled_rels e.part.now e.row n) ∙ kept.rels;
+    }
+
+    -- by what was owed at first
+    module _ (before : before_end old.part.now e.row ≡ before_end old.part.now old.row) (owed : (a : Partial) → IsSeenBefore old.part.now old.row a → left_from old a ≡ left_from e a)
+        (fewer : length e.reacher.owed ≤ length old.reacher.owed) where
+      pub before_next : before_end old.part.now row ≡ before_end old.part.now old.row
+      before_next = subst (λ (q : TrailPart). before_end q row ≡ before_end q e.row) kept.part (next_before e.graph.now e.part.now e.row row n e.reacher.owed r.owed first left is) ∙ before
+
+      seen_next : (a : Partial) → IsSeenBefore old.part.now old.row a → IsSeenBefore e.part.now e.row a
+      seen_next a seen = subst (λ (q : TrailPart). IsSeenBefore q e.row a) (sym kept.part) (seen_stays old.part.now old.row e.row a before seen)
+
+      here_may : (may : Bool) → may ≡ may_end e.end.graph e.part.now e.row n → may ≡ may_end e.graph.now e.part.now e.row n
+      here_may may told = told ∙ ap (λ (x : OtherEnd). may_end x.graph e.part.now e.row n) are.end
+
+      less : length r.owed < length old.reacher.owed
+      less = let one = next_fewer e.graph.now e.part.now e.row row n e.reacher.owed r.owed first left is in omega (arith, one, fewer)
+
+      -- it may end there
+      pub goes_next : true ≡ may_end e.end.graph e.part.now e.row n → GoesToEnd old (record e { reacher = r; row = row; end = o }) true
+      goes_next may = record {
+        before = before_next;
+        next = λ _ a seen.
+            owed a seen ∙ next_met e.graph.now e.part.now e.row row n e.reacher.owed r.owed first left is are.within (here_may true may) a (seen_next a seen)
+            ∙ ap (λ (q : TrailPart). behind_end q row a ∷ rows_at e.graph.now e.part.now a r.owed) kept.part;
+        end = λ _. subst (λ (q : TrailPart). HasEnd old.graph.now q row) kept.part (subst (λ (k : Graph). HasEnd k e.part.now row) kept.graph (next_end e.graph.now e.part.now e.row row n e.reacher.owed r.owed first left is are.within are.there));
+        fewer = λ _. less;
+        none = λ off. absurd (cc off);
+        over = λ off. absurd (cc off);
+      }
+
+      -- or not
+      pub owed_next : false ≡ may_end e.end.graph e.part.now e.row n → (a : Partial) → IsSeenBefore old.part.now old.row a → left_from old a ≡ rows_at e.graph.now e.part.now a r.owed
+      owed_next may a seen = owed a seen ∙ next_missed e.graph.now e.part.now e.row row n e.reacher.owed r.owed first left is (here_may false may) a (seen_next a seen)
+
+      pub fewer_next : length r.owed ≤ length old.reacher.owed
+      fewer_next = let one = less in omega (arith, one)
+
 -- ---- a node that is known
 
 -- of different nodes one is met at most
@@ -229,12 +295,12 @@ module _ (g : Graph) (p : TrailPart) (barred : ℕ → List RelId) (base : Wide)
       ∙ ap (ends_from g p (barred p.clause)) (from ∙ seen p.from)
 
   -- all nodes are owed that are met
-  pub begun : (owed : List NodeId) → owed ≡ ends_met r.graph r.kind r.way used r.high start → (a : Partial) → IsSeen base a
+  begun : (owed : List NodeId) → owed ≡ ends_met r.graph r.kind r.way used r.high start → (a : Partial) → IsSeen base a
       → rows_at g p a owed ≡ rows_at_ends g barred p a
   begun owed are a seen = ap (rows_at g p a) (are ∙ met_here a seen)
 
   -- or the end that is known, if it is one of them
-  pub begun_to : 1 ≤ p.high → (end : NodeId) (owed : List NodeId) → Some end ≡ (if p.both then item_at base.nodes p.to else None)
+  begun_to : 1 ≤ p.high → (end : NodeId) (owed : List NodeId) → Some end ≡ (if p.both then item_at base.nodes p.to else None)
       → owed ≡ (if list_any (same_node end) (ends_met r.graph r.kind r.way used r.high start) then end ∷ [] else []) → (a : Partial) → IsSeen base a
       → rows_at g p a owed ≡ rows_at_ends g barred p a
   begun_to some end owed known are a seen =
@@ -254,12 +320,12 @@ module _ (g : Graph) (p : TrailPart) (barred : ℕ → List RelId) (base : Wide)
       distinct = (spreads_as_led r.graph r.kind r.way used r.high start (subst (λ k. 1 ≤ k) (sym high) some)).distinct
 
   -- they are nodes of the graph
-  pub begun_there : is_valid g ≡ true → 1 ≤ p.high → (owed : List NodeId) → owed ≡ ends_met r.graph r.kind r.way used r.high start → AllByRecursion (λ n. is_node g n ≡ true) owed
+  begun_there : is_valid g ≡ true → 1 ≤ p.high → (owed : List NodeId) → owed ≡ ends_met r.graph r.kind r.way used r.high start → AllByRecursion (λ n. is_node g n ≡ true) owed
   begun_there valid some owed are =
       subst (AllByRecursion (λ n. is_node g n ≡ true)) (sym (are ∙ (λ i. ends_met (graph i) (kind i) (way i) used (high i) start)))
       (ends_inside g valid p.kind p.way used p.high start some)
 
-  pub begun_to_there : is_valid g ≡ true → 1 ≤ p.high → (end : NodeId) (owed : List NodeId)
+  begun_to_there : is_valid g ≡ true → 1 ≤ p.high → (end : NodeId) (owed : List NodeId)
       → owed ≡ (if list_any (same_node end) (ends_met r.graph r.kind r.way used r.high start) then end ∷ [] else []) → AllByRecursion (λ n. is_node g n ≡ true) owed
   begun_to_there valid some end owed are =
       subst (AllByRecursion (λ n. is_node g n ≡ true)) (sym (are ∙ ap (λ l. if list_any (same_node end) l then end ∷ [] else []) (λ i. ends_met (graph i) (kind i) (way i) used (high i) start)))
@@ -273,8 +339,61 @@ module _ (g : Graph) (p : TrailPart) (barred : ℕ → List RelId) (base : Wide)
       go true e = (leads_inside g valid p.kind p.way used p.high (Some start) end (sym ((spreads_as_led g p.kind p.way used p.high start some).all end) ∙ e), tt)
 
   -- the beginning is a node of the graph
-  pub start_there : is_node r.graph start ≡ true
+  start_there : is_node r.graph start ≡ true
   start_there = ap (λ k. is_node k start) graph ∙ look_node g (partial_of base).nodes p.from start can.nodes (look_items base.nodes p.from ∙ sym from)
+
+-- what is searched anew from a row stays what it was
+ends_anew : {e : Ends} → AreEnds e → (r : Reaching) (owed : List NodeId) → r ≡ record e.reacher { owed = owed } → AllByRecursion (λ n. is_node e.graph.now n ≡ true) r.owed
+    → (row : Wide) → e.part.now.to < length row.nodes → (stands : Bool) (kept : List RelId) → AreEnds (record e { reacher = r; row = row; stands = stands; taken = kept })
+ends_anew are r owed is there row low stands kept = record {
+  graph = ap (λ (x : Reaching). x.graph) is ∙ are.graph;
+  kind = ap (λ (x : Reaching). x.kind) is ∙ are.kind;
+  way = ap (λ (x : Reaching). x.way) is ∙ are.way;
+  high = ap (λ (x : Reaching). x.high) is ∙ are.high;
+  some = are.some;
+  end = are.end;
+  within = inr low;
+  there = there;
+}
+
+-- the trail at a row from which it begins, by what it may not take there
+module _ {e : Ends} (are : AreEnds e) (ys : List TypedRel) (ws : List (ℕ × List RelId)) (base : Wide) (can : CanTrek e.graph.now (e.part.now ∷ []) base) {used patterned walked cleared : List RelId}
+    (used_is : used ≡ patterned) (patterned_is : patterned ≡ walked ++ patterns_in ys base.rels e.part.now.clause) (walked_is : walked ≡ cleared ++ taken_in e.part.now.clause ws)
+    (none : cleared ≡ []) (start : NodeId) (from : Some start ≡ item_at base.nodes e.part.now.from) where
+  abbrev barred : ℕ → List RelId
+  barred = barred_behind ys ws base.rels
+
+  taken : used ≡ barred e.part.now.clause
+  taken =
+      used_is ∙ patterned_is
+      ∙ ap (λ (l : List RelId). l ++ patterns_in ys base.rels e.part.now.clause) (walked_is ∙ ap (λ (l : List RelId). l ++ taken_in e.part.now.clause ws) none)
+
+  low_in : (row : Wide) → row ≡ base → e.part.now.to < length row.nodes
+  low_in row copied = subst (λ (w : Wide). e.part.now.to < length w.nodes) (sym copied) can.ends.0
+
+  pub begins_there : is_node e.reacher.graph start ≡ true
+  begins_there = start_there e.graph.now e.part.now barred base e.reacher used start can are.graph are.kind are.way are.high taken from
+
+  -- to each end that is met
+  module _ {r : Reaching} (met : r ≡ record e.reacher { owed = ends_met e.reacher.graph e.reacher.kind e.reacher.way used e.reacher.high start }) where
+    pub owes_all : (a : Partial) → IsSeen base a → rows_at e.graph.now e.part.now a r.owed ≡ rows_at_ends e.graph.now barred e.part.now a
+    owes_all = begun e.graph.now e.part.now barred base e.reacher used start can are.graph are.kind are.way are.high taken from r.owed (ap (λ (x : Reaching). x.owed) met)
+
+    pub ends_to_all : is_valid e.graph.now ≡ true → (row : Wide) → row ≡ base → (stands : Bool) (kept : List RelId) → AreEnds (record e { reacher = r; row = row; stands = stands; taken = kept })
+    ends_to_all valid row copied stands kept =
+        ends_anew are r (ends_met e.reacher.graph e.reacher.kind e.reacher.way used e.reacher.high start) met
+        (begun_there e.graph.now e.part.now barred base e.reacher used start can are.graph are.kind are.way are.high taken from valid are.some r.owed (ap (λ (x : Reaching). x.owed) met)) row (low_in row copied) stands kept
+
+  -- or to the one that is known
+  module _ (end : NodeId) (known : Some end ≡ (if e.part.now.both then item_at base.nodes e.part.now.to else None)) {r : Reaching}
+      (met : r ≡ record e.reacher { owed = if list_any (same_node end) (ends_met e.reacher.graph e.reacher.kind e.reacher.way used e.reacher.high start) then end ∷ [] else [] }) where
+    pub owes_one : (a : Partial) → IsSeen base a → rows_at e.graph.now e.part.now a r.owed ≡ rows_at_ends e.graph.now barred e.part.now a
+    owes_one = begun_to e.graph.now e.part.now barred base e.reacher used start can are.graph are.kind are.way are.high taken from are.some end r.owed known (ap (λ (x : Reaching). x.owed) met)
+
+    pub ends_to_one : is_valid e.graph.now ≡ true → (row : Wide) → row ≡ base → (stands : Bool) (kept : List RelId) → AreEnds (record e { reacher = r; row = row; stands = stands; taken = kept })
+    ends_to_one valid row copied stands kept =
+        ends_anew are r (if list_any (same_node end) (ends_met e.reacher.graph e.reacher.kind e.reacher.way used e.reacher.high start) then end ∷ [] else []) met
+        (begun_to_there e.graph.now e.part.now barred base e.reacher used start can are.graph are.kind are.way are.high taken from valid are.some end r.owed (ap (λ (x : Reaching). x.owed) met)) row (low_in row copied) stands kept
 
 -- a trail that can be walked begins where the row has a node
 pub starts_somewhere : (g : Graph) (p : TrailPart) (base : Wide) → CanTrek g (p ∷ []) base → None ≡ item_at base.nodes p.from → ⊥

@@ -220,7 +220,7 @@ module _ (ys : List TypedRel) (begun : Bool) (t : Trekking) (es : List Ends) whe
 
 -- ---- by places
 
-module _ (ys : List TypedRel) (begun : Bool) (t : Trekking) (es : List Ends) (on : Bool) (u : Trekking) (fs : List Ends) (way : AreOnWay ys begun t es on u fs) (hs : List Ends) (found : Bool)
+module _ {ys : List TypedRel} {begun : Bool} {t : Trekking} {es : List Ends} {on : Bool} {u : Trekking} {fs : List Ends} (way : AreOnWay ys begun t es on u fs) {hs : List Ends} {found : Bool}
     (gone : HaveGoneFrom u.graph (barred_behind ys (walked_of u)) u.nodes u.rels on 0 fs hs found) where
   f : IsCons fs
   f = cons_of fs way.chain.some

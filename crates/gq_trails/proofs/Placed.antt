@@ -5,7 +5,7 @@ use Rattle.gq_base.specs.declared.RelId.{RelId}
 use Rattle.gq_outer.specs.Rows.{Wide, item_at}
 use Rattle.gq_trails.specs.Continued.{rows_at_ends}
 use Rattle.gq_trails.specs.Trekking.{CanTrek}
-use Rattle.gq_trails.specs.steps.Chained.{AllGoOn, AreOfOne, AreUnderWay, AreUnderWayFrom, CanBegin, CanBeginAt, GoFrom, HasAdvanced, HasGone, HasWay, HaveGoneFrom, HaveGoneOn, IsAdvanced, IsOneOf, IsSetOut, StandsAt, parts_in}
+use Rattle.gq_trails.specs.steps.Chained.{AllGoOn, AreOfOne, AreUnderWay, AreUnderWayFrom, CanBegin, CanBeginAt, GoFrom, HasAdvanced, HasGone, HasWay, HaveGoneFrom, HaveGoneOn, IsAdvanced, IsAsLongAt, IsOneOf, IsSetOut, StandsAt, parts_in}
 use Rattle.gq_trails.specs.steps.Reached.{AreEnds, GoesToEnd}
 use Rattle.gq_trails.specs.declared.reached.Ends.{Ends}
 use Rattle.gq_trails.proofs.Chaining.{begun_behind, can_first, first_way, gone_behind, last_goes, many_alike, no_items, none_behind, none_left, not_begun, spent_behind, walks_on}
@@ -95,6 +95,19 @@ read_at zero (e ∷ es) x d r is told = told ∙ first_is is
 read_at (suc at) [] x d r is told = absurd (cc is)
 read_at (suc at) (e ∷ es) x d r is told = read_at at es x d r is told
 
+-- so what is true of the trail at a place is true of what is read there
+pub can_at : (at : ℕ) (es : List Ends) (x : Ends) (base : Wide) → at < length es → CanBeginAt at es base → x ≡ get_or es at x → CanBegin x base
+can_at at es x base low can told =
+    let here = cons_at at es low in
+    subst (λ (e : Ends). CanBegin e base) (sym (read_at at es x here.first here.rest here.is told)) (can here.first here.rest here.is)
+
+pub long_at : (at : ℕ) (es : List Ends) (x : Ends) (row : Wide) → at < length es → IsAsLongAt at es row → x ≡ get_or es at x
+    → (length row.nodes ≡ length x.row.nodes) × (length row.rels ≡ length x.row.rels)
+long_at at es x row low long told =
+    let here = cons_at at es low in
+    subst (λ (e : Ends). (length row.nodes ≡ length e.row.nodes) × (length row.rels ≡ length e.row.rels)) (sym (read_at at es x here.first here.rest here.is told))
+    (long here.first here.rest here.is)
+
 -- how many ends the first of some trails owes
 abbrev pub ends_left : List Ends → ℕ
 ends_left [] = 0
@@ -146,7 +159,7 @@ module _ (g : Graph) (barred : List (Option RelId) → ℕ → List RelId) (node
   }
 
 -- those that follow go on
-module _ (g : Graph) (barred : List (Option RelId) → ℕ → List RelId) (nodes rels : ℕ) (at : ℕ) (es xs : List Ends) (way : AreUnderWayFrom g barred nodes rels at es xs) where
+module _ {g : Graph} {barred : List (Option RelId) → ℕ → List RelId} {nodes rels at : ℕ} {es xs : List Ends} (way : AreUnderWayFrom g barred nodes rels at es xs) where
   -- there is one that follows
   pub more_low : at < length es → at + 1 < length xs
   more_low low =
@@ -171,8 +184,8 @@ module _ (g : Graph) (barred : List (Option RelId) → ℕ → List RelId) (node
       let one : at + 1 ≡ suc at = omega arith in
       subst (λ k. AreOfOne g nodes rels (drop k xs)) (sym one) (subst (AreOfOne g nodes rels) (sym (drop_more at xs w.head (w.next ∷ w.tail) w.is)) w.way.kept.all.1)
 
-  pub more_goes : (entered : Bool) → StandsAt at xs entered → at < length es → GoFrom g es at → entered ≡ true → GoFrom g xs (at + 1)
-  more_goes entered told low goes on f fs is =
+  pub more_goes : {entered : Bool} → StandsAt at xs entered → at < length es → GoFrom g es at → entered ≡ true → GoFrom g xs (at + 1)
+  more_goes told low goes on f fs is =
       let here = cons_at at es low in
       let w = way.way here.first here.rest here.is in
       let one : at + 1 ≡ suc at = omega arith in
@@ -181,7 +194,7 @@ module _ (g : Graph) (barred : List (Option RelId) → ℕ → List RelId) (node
       let behind = gone.more (sym (told w.head (w.next ∷ w.tail) w.is) ∙ on) in
       subst (λ l. AllGoOn g (rels_head l) l) (sym same) (subst (λ os. AllGoOn g os (w.next ∷ w.tail)) (sym behind.rels) behind)
 
-  module _ (entered : Bool) (told : StandsAt at xs entered) (ws : List Ends) (found : Bool) (gone : HaveGoneFrom g barred nodes rels entered (at + 1) xs ws found) where
+  module _ {entered : Bool} (told : StandsAt at xs entered) {ws : List Ends} {found : Bool} (gone : HaveGoneFrom g barred nodes rels entered (at + 1) xs ws found) where
     one_more : at + 1 ≡ suc at
     one_more = omega arith
 
@@ -234,7 +247,7 @@ module _ (g : Graph) (barred : List (Option RelId) → ℕ → List RelId) (node
           let same = first_is (sym (drop_ws here.first here.rest here.is) ∙ here_is) in
           subst AreEnds same (way_ws here.first here.rest here.is).kept.all.0.ends
 
-      module _ (hs : List Ends) (further : Bool) (gone_to : IsAdvanced at ws hs further) where
+      module _ {hs : List Ends} {further : Bool} (gone_to : IsAdvanced at ws hs further) where
         one_to : (e : Ends) (rest : List Ends) (is : drop at es ≡ e ∷ rest) → HasAdvanced (w e rest is).head gone_to.new further
         one_to e rest is = gone_to.one (w e rest is).head ((inner e rest is).head ∷ (inner e rest is).tail) (drop_ws e rest is)
 

@@ -7,64 +7,19 @@ pub rows-init : goal.rows-init
 rows-init c = record { way = first_on c.args.rels.now c.args.begun c.args.trails.now c.args.ends.now.items c.requires.chain; nodes = refl; rels = refl }
 
 pub go_on-requires-clause-low : goal.go_on-requires-clause-low
-go_on-requires-clause-low c =
-    let ys = c.args.rels.now in
-    let t = c.args.trails.now in
-    let es = c.args.ends.now.items in
-    let begun = c.args.begun in
-    let on = c.rows.begun in
-    let u = c.rows.trails in
-    let fs = c.rows.ends.items in
-    let way = c.rows.invariant.way in
-    omega (arith, way.chain.some)
+go_on-requires-clause-low c = let some = c.rows.invariant.way.chain.some in omega (arith, some)
 
 pub go_on-requires-clause-few : goal.go_on-requires-clause-few
-go_on-requires-clause-few c b =
-    let ys = c.args.rels.now in
-    let t = c.args.trails.now in
-    let es = c.args.ends.now.items in
-    let begun = c.args.begun in
-    let on = c.rows.begun in
-    let u = c.rows.trails in
-    let fs = c.rows.ends.items in
-    let way = c.rows.invariant.way in
-    (way.chain.state b).few
+go_on-requires-clause-few c b = (c.rows.invariant.way.chain.state b).few
 
 pub go_on-requires-clause-stands : goal.go_on-requires-clause-stands
-go_on-requires-clause-stands c b =
-    let ys = c.args.rels.now in
-    let t = c.args.trails.now in
-    let es = c.args.ends.now.items in
-    let begun = c.args.begun in
-    let on = c.rows.begun in
-    let u = c.rows.trails in
-    let fs = c.rows.ends.items in
-    let way = c.rows.invariant.way in
-    (way.chain.state b).stands
+go_on-requires-clause-stands c b = (c.rows.invariant.way.chain.state b).stands
 
 pub go_on-requires-clause-all : goal.go_on-requires-clause-all
-go_on-requires-clause-all c =
-    let ys = c.args.rels.now in
-    let t = c.args.trails.now in
-    let es = c.args.ends.now.items in
-    let begun = c.args.begun in
-    let on = c.rows.begun in
-    let u = c.rows.trails in
-    let fs = c.rows.ends.items in
-    let way = c.rows.invariant.way in
-    way.chain.all
+go_on-requires-clause-all c = c.rows.invariant.way.chain.all
 
 pub go_on-requires-clause-goes : goal.go_on-requires-clause-goes
-go_on-requires-clause-goes c b e rest is =
-    let ys = c.args.rels.now in
-    let t = c.args.trails.now in
-    let es = c.args.ends.now.items in
-    let begun = c.args.begun in
-    let on = c.rows.begun in
-    let u = c.rows.trails in
-    let fs = c.rows.ends.items in
-    let way = c.rows.invariant.way in
-    subst (λ l. AllGoOn u.graph (rels_first l) l) is (way.chain.state b).goes
+go_on-requires-clause-goes c b e rest is = subst (λ l. AllGoOn c.rows.trails.graph (rels_first l) l) is (c.rows.invariant.way.chain.state b).goes
 
 pub go_on-requires-clause-nodes : goal.go_on-requires-clause-nodes
 go_on-requires-clause-nodes c = c.rows.invariant.nodes ∙ c.requires.nodes ∙ sym c.rows.invariant.way.same.nodes
@@ -73,129 +28,50 @@ pub go_on-requires-clause-rels : goal.go_on-requires-clause-rels
 go_on-requires-clause-rels c = c.rows.invariant.rels ∙ c.requires.rels ∙ sym c.rows.invariant.way.same.rels
 
 pub returns-then-go_on-clause-gone : goal.returns-then-go_on-clause-gone
-returns-then-go_on-clause-gone c =
-    let ys = c.args.rels.now in
-    let t = c.args.trails.now in
-    let es = c.args.ends.now.items in
-    let begun = c.args.begun in
-    let on = c.rows.begun in
-    let u = c.rows.trails in
-    let fs = c.rows.ends.items in
-    let way = c.rows.invariant.way in
-    let hs = c.go_on.new.ends.items in
-    let found = c.go_on.result in
-    let came = c.go_on.ensures.gone in
-    found_behind ys begun t es on u fs way hs found came c.if-go_on.true
+returns-then-go_on-clause-gone c = found_behind c.rows.invariant.way c.go_on.ensures.gone c.if-go_on.true
 
 pub returns-then-not-advance-clause-gone : goal.returns-then-not-advance-clause-gone
 returns-then-not-advance-clause-gone c =
-    let ys = c.args.rels.now in
-    let t = c.args.trails.now in
-    let es = c.args.ends.now.items in
-    let begun = c.args.begun in
-    let on = c.rows.begun in
-    let u = c.rows.trails in
-    let fs = c.rows.ends.items in
-    let way = c.rows.invariant.way in
-    let hs = c.go_on.new.ends.items in
-    let found = c.go_on.result in
-    let came = c.go_on.ensures.gone in
-    let off = c.if-go_on.false in
-    let v = c.advance.new.self in
     let gone = c.advance.ensures in
     let end = c.if-not-advance.true in
-    out_behind ys begun t es on u fs way hs found came off v gone.graph gone.parts gone.nodes gone.rels (gone.none end) (gone.over end)
+    out_behind c.rows.invariant.way c.go_on.ensures.gone c.if-go_on.false c.advance.new.self gone.graph gone.parts gone.nodes gone.rels (gone.none end) (gone.over end)
 
 pub base-requires : goal.base-requires
 base-requires c = c.advance.ensures.stands c.if-not-advance.false
 
+-- ---- they begin where the walks went on to
+
 pub set_out-requires-clause-low : goal.set_out-requires-clause-low
 set_out-requires-clause-low c =
-    let ys = c.args.rels.now in
-    let t = c.args.trails.now in
-    let es = c.args.ends.now.items in
-    let begun = c.args.begun in
-    let on = c.rows.begun in
-    let u = c.rows.trails in
-    let fs = c.rows.ends.items in
-    let way = c.rows.invariant.way in
-    let hs = c.go_on.new.ends.items in
-    let found = c.go_on.result in
-    let came = c.go_on.ensures.gone in
-    let off = c.if-go_on.false in
-    let v = c.advance.new.self in
     let gone = c.advance.ensures in
     let more = c.if-not-advance.false in
-    let base = c.base.result.now in
-    let is = c.base.ensures in
-    low_set ys begun t es on u fs way hs found came off v gone.graph gone.parts gone.nodes gone.rels (gone.next more) (gone.stands more) base is.row is.nodes
+    low_set c.rows.invariant.way c.go_on.ensures.gone c.if-go_on.false c.advance.new.self gone.graph gone.parts gone.nodes gone.rels (gone.next more) (gone.stands more)
+    c.base.result.now c.base.ensures.row c.base.ensures.nodes
 
 pub set_out-requires-clause-can : goal.set_out-requires-clause-can
 set_out-requires-clause-can c =
-    let ys = c.args.rels.now in
-    let t = c.args.trails.now in
-    let es = c.args.ends.now.items in
-    let begun = c.args.begun in
-    let on = c.rows.begun in
-    let u = c.rows.trails in
-    let fs = c.rows.ends.items in
-    let way = c.rows.invariant.way in
-    let hs = c.go_on.new.ends.items in
-    let found = c.go_on.result in
-    let came = c.go_on.ensures.gone in
-    let off = c.if-go_on.false in
-    let v = c.advance.new.self in
     let gone = c.advance.ensures in
     let more = c.if-not-advance.false in
-    let base = c.base.result.now in
-    let is = c.base.ensures in
-    can_set ys begun t es on u fs way hs found came off v gone.graph gone.parts gone.nodes gone.rels (gone.next more) (gone.stands more) base is.row is.nodes is.rels
+    can_set c.rows.invariant.way c.go_on.ensures.gone c.if-go_on.false c.advance.new.self gone.graph gone.parts gone.nodes gone.rels (gone.next more) (gone.stands more)
+    c.base.result.now c.base.ensures.row c.base.ensures.nodes c.base.ensures.rels
 
 pub set_out-requires-clause-few : goal.set_out-requires-clause-few
 set_out-requires-clause-few c =
-    let ys = c.args.rels.now in
-    let t = c.args.trails.now in
-    let es = c.args.ends.now.items in
-    let begun = c.args.begun in
-    let on = c.rows.begun in
-    let u = c.rows.trails in
-    let fs = c.rows.ends.items in
-    let way = c.rows.invariant.way in
-    let hs = c.go_on.new.ends.items in
-    let found = c.go_on.result in
-    let came = c.go_on.ensures.gone in
-    let off = c.if-go_on.false in
-    let v = c.advance.new.self in
     let gone = c.advance.ensures in
     let more = c.if-not-advance.false in
-    let base = c.base.result.now in
-    let is = c.base.ensures in
-    few_set ys begun t es on u fs way hs found came off v gone.graph gone.parts gone.nodes gone.rels (gone.next more) (gone.stands more) base is.row is.nodes
+    few_set c.rows.invariant.way c.go_on.ensures.gone c.if-go_on.false c.advance.new.self gone.graph gone.parts gone.nodes gone.rels (gone.next more) (gone.stands more)
+    c.base.result.now c.base.ensures.row c.base.ensures.nodes
 
 pub set_out-requires-clause-stands : goal.set_out-requires-clause-stands
 set_out-requires-clause-stands c = c.advance.ensures.stands c.if-not-advance.false
 
 pub rows-preserved : goal.rows-preserved
 rows-preserved c =
-    let ys = c.args.rels.now in
-    let t = c.args.trails.now in
-    let es = c.args.ends.now.items in
-    let begun = c.args.begun in
-    let on = c.rows.begun in
-    let u = c.rows.trails in
-    let fs = c.rows.ends.items in
-    let way = c.rows.invariant.way in
-    let hs = c.go_on.new.ends.items in
-    let found = c.go_on.result in
-    let came = c.go_on.ensures.gone in
-    let off = c.if-go_on.false in
-    let v = c.advance.new.self in
     let gone = c.advance.ensures in
     let more = c.if-not-advance.false in
-    let base = c.base.result.now in
-    let is = c.base.ensures in
     record {
-      way = set_behind ys begun t es on u fs way hs found came off v gone.graph gone.parts gone.nodes gone.rels (gone.next more) (gone.stands more) base is.row is.nodes c.set_out.new.ends.items c.set_out.ensures;
+      way = set_behind c.rows.invariant.way c.go_on.ensures.gone c.if-go_on.false c.advance.new.self gone.graph gone.parts gone.nodes gone.rels (gone.next more) (gone.stands more)
+          c.base.result.now c.base.ensures.row c.base.ensures.nodes c.set_out.new.ends.items c.set_out.ensures;
       nodes = c.go_on.ensures.nodes ∙ c.rows.invariant.nodes;
       rels = c.go_on.ensures.rels ∙ c.rows.invariant.rels;
     }
