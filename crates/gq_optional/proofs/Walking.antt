@@ -1,6 +1,8 @@
 -- A walk from one row to the next: what is owed, and that it stays a walk.
 use Rattle.std.proofs.Common.{◌≡◌, ℕ, ◌+◌, ◌-◌, ◌∙◌, Bool, true, false, List, [], ◌∷◌, drop, length, sym, ap, ap₂, subst, refl, arith, Option, None, ◌++◌}
-use Rattle.std.proofs.lemmas.List.{drop-drop, drop_all, length-drop, length-map}
+use Rattle.std.specs.Prelude.{Vec}
+use Rattle.std.specs.Vec.{with_items}
+use Rattle.std.proofs.lemmas.List.{drop-drop, drop_all, length-drop, length-map, with_items_is}
 use Rattle.gq_base.specs.Plain.{Graph}
 use Rattle.gq_expr.specs.declared.Fault.{Fault}
 use Rattle.gq_plan.specs.Marked.{Marked}
@@ -15,8 +17,16 @@ use Rattle.gq_optional.proofs.Stepped.{last_alike}
 use Rattle.gq_optional.proofs.Walked.{last_is}
 
 -- as many levels as clauses
-pub as_many : (new old : List ClauseLevel) → clauses_of new ≡ clauses_of old → length new ≡ length old
+as_many : (new old : List ClauseLevel) → clauses_of new ≡ clauses_of old → length new ≡ length old
 as_many new old e = sym (length-map new (λ (l : ClauseLevel). l.clause.now)) ∙ ap length e ∙ length-map old (λ (l : ClauseLevel). l.clause.now)
+
+-- levels that were worked on stand in their place again, of the same clauses
+module _ {Z : Type 0} (v : Vec ClauseLevel Z) (mid new : List ClauseLevel) (same : clauses_of new ≡ clauses_of mid) (taken : mid ≡ v.items) where
+  pub put_back : (with_items v new).items ≡ new
+  put_back = with_items_is v new (omega (arith, as_many new mid same, ap length taken, v.ok.0))
+
+  pub clauses_put : clauses_of (with_items v new).items ≡ clauses_of v.items
+  clauses_put = ap clauses_of put_back ∙ same ∙ ap clauses_of taken
 
 pub levels_moved : (w w' : Wide) (ls ls' : List ClauseLevel) → w ≡ w' → ls ≡ ls' → AreLevels (length w.nodes) (length w.rels) ls → AreLevels (length w'.nodes) (length w'.rels) ls'
 levels_moved w w' ls ls' e f all = subst (λ (t : Wide × List ClauseLevel). AreLevels (length t.0.nodes) (length t.0.rels) t.1) (λ i. (e i, f i)) all
