@@ -93,11 +93,25 @@ pub(crate) fn rows_before(rows: &[u32], number: u64, key: u128) -> usize
     ensures more { IsRising rows.now → (k : ℕ) → result ≤ k → k < length rows.now
         → key ≤ key_of number (slice_index_or rows.now k 0) }
 {
+    if all_before(rows, number, key) {
+        return rows.len();
+    }
     let place = likely_place(rows, number, key);
     if has_key(rows, number, place, key) {
         return place;
     }
     rows_searched(rows, number, key)
+}
+
+// Whether the key with a number of the last row comes before a key, and so that of each row does.
+fn all_before(rows: &[u32], number: u64, key: u128) -> bool
+    ensures { IsRising rows.now → result ≡ true → (k : ℕ) → k < length rows.now
+        → key_of number (slice_index_or rows.now k 0) < key }
+{
+    match rows.last() {
+        None => false,
+        Some(last) => key_of(number, u64::from(*last)) < key,
+    }
 }
 
 // The place of the row that has a key, if the rows follow one another up to it.
