@@ -1,3 +1,4 @@
+pub mod FaultNames
 pub mod Kinds
 pub mod Meaning
 pub mod Operators

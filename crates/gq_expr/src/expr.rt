@@ -1,4 +1,7 @@
 //! Expressions whose names are resolved: variables are numbers, functions are variants.
+ghost use Rattle.std.specs.Prelude.{◌≡◌};
+ghost use Rattle.gq_expr.specs.FaultNames.{fault_name};
+
 use gq_base::{ArithOp, Boxed, CompareOp, List, Literal, Text, TextTest};
 
 /// A logical operator of two operands.
@@ -18,6 +21,19 @@ pub enum Fault {
     DivideByZero,
     /// An operand of a kind that the operator does not take.
     Kind,
+}
+
+impl Fault {
+    /// Its name.
+    pub fn name(self) -> &'static str
+        ensures { result.now ≡ fault_name self }
+    {
+        match self {
+            Fault::Overflow => "Overflow",
+            Fault::DivideByZero => "DivideByZero",
+            Fault::Kind => "Kind",
+        }
+    }
 }
 
 /// An operator with its right operand.

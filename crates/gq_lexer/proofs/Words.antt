@@ -6,7 +6,7 @@ use Rattle.gq_base.specs.Words.{is_word_start}
 use Rattle.gq_lexer.specs.Lexemes.{word_at}
 use Rattle.gq_lexer.specs.Runs.{of_size, piece, run}
 use Rattle.gq_lexer.specs.declared.lexeme.Lexeme.{Lexeme}
-use Rattle.gq_lexer.specs.declared.run.Form.TheVariants as form
+use Rattle.gq_lexer.specs.declared.run.RunForm.TheVariants as form
 use Rattle.gq_lexer.proofs.Pieces.{run_more}
 use Rattle.std.specs.Char.{is_ascii_digit}
 

@@ -6,8 +6,8 @@ use Rattle.std.specs.declared.option.Option.TheVariants.{Some, None}
 use Rattle.gq_base.specs.Words.{code, is_word_part}
 use Rattle.gq_lexer.specs.Characters.{begins}
 use Rattle.gq_lexer.specs.Numbers.{digits_at, value_in}
-use Rattle.gq_lexer.specs.declared.run.Form.{Form}
-use Rattle.gq_lexer.specs.declared.run.Form.TheVariants as form
+use Rattle.gq_lexer.specs.declared.run.RunForm.{RunForm}
+use Rattle.gq_lexer.specs.declared.run.RunForm.TheVariants as form
 use Rattle.gq_lexer.specs.declared.run.Piece.{Piece}
 
 -- a piece of this many characters that stands for one
@@ -42,7 +42,7 @@ escape (c ∷ cs) = if c == code "u" then code_piece 4 cs else if c == code "U" 
 
 -- the piece that a run of this form goes on with, where it goes on: a character of a word; a character, or a backquote
 -- that is doubled; a character but the quote, or an escape; a character of the line; a character before the next `*/`
-abbrev pub piece : Form → List ℕ → Option Piece
+abbrev pub piece : RunForm → List ℕ → Option Piece
 piece f [] = None
 piece form.Word (c ∷ cs) = if is_word_part c then of_size 1 c else None
 piece form.Quoted (c ∷ cs) = if c == code "`" then (if begins (code "`") cs then of_size 2 c else None) else of_size 1 c
@@ -63,11 +63,11 @@ goes_on None rest = record { values = []; size = 0 }
 goes_on (Some p) rest = longer p (rest p)
 
 -- the run from where so many characters of its last piece are still to come
-abbrev pub run_behind : Form → ℕ → List ℕ → Run
+abbrev pub run_behind : RunForm → ℕ → List ℕ → Run
 run_behind f left [] = record { values = []; size = 0 }
 run_behind f (suc left) (c ∷ cs) = run_behind f left cs
 run_behind f zero (c ∷ cs) = goes_on (piece f (c ∷ cs)) (λ p. run_behind f (p.size - 1) cs)
 
 -- as many pieces as stand one behind another
-unfoldable pub run : Form → List ℕ → Run
+unfoldable pub run : RunForm → List ℕ → Run
 run f cs = run_behind f 0 cs

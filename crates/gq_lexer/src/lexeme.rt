@@ -4,7 +4,7 @@ ghost use Rattle.std.specs.Prelude.{◌≡◌, ◌+◌, ◌<◌, ◌≤◌, leng
 ghost use Rattle.gq_lexer.specs.Lexemes.{quoted_at, string_at, slash_at, word_at, lexeme};
 
 use crate::number::read_number;
-use crate::run::{Form, extent, spell};
+use crate::run::{RunForm, extent, spell};
 use crate::sign::read_sign;
 use crate::token::{Sign, TokenKind};
 use gq_base::{Memory, is_word_start};
@@ -22,7 +22,7 @@ fn read_word(alloc: Global, rest: &[char]) -> Result<Option<Lexeme>, Memory>
     ensures value { IfOk result (λ r. r ≡ word_at rest.now) }
     ensures size { IfOk result (λ r. IfSome r (λ l. l.size ≤ length rest.now)) }
 {
-    let word = spell(alloc, Form::Word, rest)?;
+    let word = spell(alloc, RunForm::Word, rest)?;
     Ok(Some(Lexeme {
         size: word.size,
         kind: Some(TokenKind::Word(word.text)),
@@ -35,7 +35,7 @@ fn read_quoted(alloc: Global, behind: &[char]) -> Result<Option<Lexeme>, Memory>
     ensures size { IfOk result (λ r.
         IfSome r (λ l. (0 < l.size) × (l.size ≤ length behind.now + 1))) }
 {
-    let name = spell(alloc, Form::Quoted, behind)?;
+    let name = spell(alloc, RunForm::Quoted, behind)?;
     if name.size == 0 || behind.get(name.size) != Some(&'`') {
         return Ok(None);
     }
@@ -51,7 +51,7 @@ fn read_string(alloc: Global, quote: char, behind: &[char]) -> Result<Option<Lex
     ensures size { IfOk result (λ r.
         IfSome r (λ l. (0 < l.size) × (l.size ≤ length behind.now + 1))) }
 {
-    let value = spell(alloc, Form::Str(quote), behind)?;
+    let value = spell(alloc, RunForm::Str(quote), behind)?;
     if behind.get(value.size) != Some(&quote) {
         return Ok(None);
     }
@@ -68,11 +68,11 @@ fn read_slash(behind: &[char]) -> Option<Lexeme>
 {
     match behind {
         ['/', comment @ ..] => Some(Lexeme {
-            size: extent(Form::Line, comment) + 2,
+            size: extent(RunForm::Line, comment) + 2,
             kind: None,
         }),
         ['*', comment @ ..] => {
-            let size = extent(Form::Block, comment);
+            let size = extent(RunForm::Block, comment);
             if comment.get(size) != Some(&'*') || comment.get(size + 1) != Some(&'/') {
                 return None;
             }

@@ -10,7 +10,7 @@ use std::alloc::Global;
 
 /// What a run consists of.
 #[derive(Clone, Copy)]
-pub(crate) enum Form {
+pub(crate) enum RunForm {
     /// Characters of a word.
     Word,
     /// What stands in backquotes: two are one, and one ends it.
@@ -80,7 +80,7 @@ fn escape(rest: &[char]) -> Option<Piece>
 }
 
 // The piece that a run goes on with, where it goes on.
-fn next_piece(form: Form, rest: &[char]) -> Option<Piece>
+fn next_piece(form: RunForm, rest: &[char]) -> Option<Piece>
     ensures value { result ≡ piece form rest.now }
     ensures size { IfSome result (λ p. (0 < p.size) × (p.size ≤ length rest.now)) }
 {
@@ -90,14 +90,14 @@ fn next_piece(form: Form, rest: &[char]) -> Option<Piece>
     let behind = &rest[1..];
     let one = Some(Piece { size: 1, value });
     match form {
-        Form::Word if is_word_part(value) => one,
-        Form::Quoted if value != '`' => one,
-        Form::Quoted if behind.first() == Some(&'`') => Some(Piece { size: 2, value }),
-        Form::Str(quote) if value == quote => None,
-        Form::Str(_) if value == '\\' => escape(behind),
-        Form::Str(_) => one,
-        Form::Line if value != '\n' && value != '\r' => one,
-        Form::Block if value != '*' || behind.first() != Some(&'/') => one,
+        RunForm::Word if is_word_part(value) => one,
+        RunForm::Quoted if value != '`' => one,
+        RunForm::Quoted if behind.first() == Some(&'`') => Some(Piece { size: 2, value }),
+        RunForm::Str(quote) if value == quote => None,
+        RunForm::Str(_) if value == '\\' => escape(behind),
+        RunForm::Str(_) => one,
+        RunForm::Line if value != '\n' && value != '\r' => one,
+        RunForm::Block if value != '*' || behind.first() != Some(&'/') => one,
         _ => None,
     }
 }
@@ -110,7 +110,7 @@ pub(crate) struct Spelled {
 }
 
 /// Reads the run that stands at the front of a text, as many pieces as there are.
-pub(crate) fn spell(alloc: Global, form: Form, rest: &[char]) -> Result<Spelled, Memory>
+pub(crate) fn spell(alloc: Global, form: RunForm, rest: &[char]) -> Result<Spelled, Memory>
     ensures text { IfOk result (λ s. s.text ≡ encode_utf8_all (run form rest.now).values) }
     ensures size { IfOk result (λ s. s.size ≡ (run form rest.now).size) }
     ensures within { IfOk result (λ s. s.size ≤ length rest.now) }
@@ -128,7 +128,7 @@ pub(crate) fn spell(alloc: Global, form: Form, rest: &[char]) -> Result<Spelled,
 }
 
 /// How many characters the run at the front of a text takes.
-pub(crate) fn extent(form: Form, rest: &[char]) -> usize
+pub(crate) fn extent(form: RunForm, rest: &[char]) -> usize
     ensures size { result ≡ (run form rest.now).size }
     ensures within { result ≤ length rest.now }
 {

@@ -1,5 +1,6 @@
 pub mod Grammar
 pub mod Outcomes
+pub mod RefusalNames
 pub mod Refusals
 pub mod Spans
 pub mod Trees

@@ -6,13 +6,16 @@ ghost use Rattle.gq_tokens.specs.Answers.{Reads, ReadsBeside};
 ghost use Rattle.gq_tokens.specs.Words as words;
 
 use crate::grammar::Grammar;
-use crate::opening::Level;
+use crate::opening::Production;
 use gq_ast::{Ast, AstNode, AstTester, CompareTerm, Term, Tester};
 use gq_base::{Boxed, CompareOp, List, TextTest};
 use gq_tokens::{Comparison, Params, Stop, TestWord, Tests, Tokens, has_with, list, with_many};
 use std::alloc::Global;
 
-impl<F: Fn(Global, &Params, &mut Tokens<'_>, usize, Level) -> Result<Ast, Stop>> Grammar<'_, F> {
+impl<F: Fn(Global, &Params, &mut Tokens<'_>, usize, Production) -> Result<Ast, Stop>> Grammar<
+    '_,
+    F,
+> {
     // A test of a text, behind its first word.
     #[tactic(auto, unfolding(crate::specs::steps::Parsers::tested_text))]
     fn tested_text(&self, tokens: &mut Tokens<'_>, test: TextTest) -> Result<AstTester, Stop>

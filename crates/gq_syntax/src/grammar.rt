@@ -6,7 +6,7 @@ ghost use Rattle.gq_syntax.specs.steps.Parsers as p;
 ghost use Rattle.gq_tokens.specs.Answers.{Reads};
 ghost use Rattle.gq_tokens.specs.Parameters.{values_of};
 
-use crate::opening::Level;
+use crate::opening::Production;
 use gq_ast::Ast;
 use gq_tokens::{Params, Stop, Tokens};
 use std::alloc::Global;
@@ -23,9 +23,12 @@ pub(crate) struct Grammar<'p, F> {
     pub(crate) nested: F,
 }
 
-impl<F: Fn(Global, &Params, &mut Tokens<'_>, usize, Level) -> Result<Ast, Stop>> Grammar<'_, F> {
+impl<F: Fn(Global, &Params, &mut Tokens<'_>, usize, Production) -> Result<Ast, Stop>> Grammar<
+    '_,
+    F,
+> {
     /// What stands inside a construct.
-    pub(crate) fn inside(&self, tokens: &mut Tokens<'_>, level: Level) -> Result<Ast, Stop>
+    pub(crate) fn inside(&self, tokens: &mut Tokens<'_>, level: Production) -> Result<Ast, Stop>
         requires room { 0 < self.now.room }
         requires nests { Nests self.now.params.now self.now.room (F.pre self.now.nested)
             (F.post self.now.nested) }

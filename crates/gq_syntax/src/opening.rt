@@ -2,7 +2,7 @@
 
 /// Which production of expressions stands inside a construct.
 #[derive(Clone, Copy, Debug, PartialEq, Eq)]
-pub(crate) enum Level {
+pub(crate) enum Production {
     /// An expression, as in parentheses.
     Expr,
     /// What NOT negates.

@@ -6,7 +6,7 @@ ghost use Rattle.gq_syntax.specs.steps.Parsers as p;
 ghost use Rattle.gq_tokens.specs.Answers.{Reads};
 
 use crate::grammar::Grammar;
-use crate::opening::Level;
+use crate::opening::Production;
 use crate::patterns::path;
 use gq_ast::{Ast, AstNode};
 use gq_base::{Boxed, List, Literal, Text};
@@ -14,7 +14,10 @@ use gq_lexer::Sign;
 use gq_tokens::{Params, Stop, Tokens, listed};
 use std::alloc::Global;
 
-impl<F: Fn(Global, &Params, &mut Tokens<'_>, usize, Level) -> Result<Ast, Stop>> Grammar<'_, F> {
+impl<F: Fn(Global, &Params, &mut Tokens<'_>, usize, Production) -> Result<Ast, Stop>> Grammar<
+    '_,
+    F,
+> {
     // An expression and the parenthesis that closes it.
     #[tactic(auto, unfolding(crate::specs::steps::Parsers::grouped))]
     fn grouped(&self, tokens: &mut Tokens<'_>) -> Result<AstNode<Ast>, Stop>
@@ -25,7 +28,7 @@ impl<F: Fn(Global, &Params, &mut Tokens<'_>, usize, Level) -> Result<Ast, Stop>>
             tokens.old)
             result tokens.new }
     {
-        let tree = self.inside(tokens, Level::Expr)?;
+        let tree = self.inside(tokens, Production::Expr)?;
         let tree = tokens.closed(tree, Sign::RightParen)?;
         Ok(AstNode::Paren(Boxed::new(self.alloc, tree)?))
     }
@@ -41,7 +44,7 @@ impl<F: Fn(Global, &Params, &mut Tokens<'_>, usize, Level) -> Result<Ast, Stop>>
             result tokens.new }
     {
         listed(self.alloc, tokens, |tokens| {
-            self.inside(tokens, Level::Expr)
+            self.inside(tokens, Production::Expr)
         })
     }
 
@@ -134,7 +137,7 @@ impl<F: Fn(Global, &Params, &mut Tokens<'_>, usize, Level) -> Result<Ast, Stop>>
         if tokens.take_big() {
             return Ok(AstNode::Literal(Literal::Int(i64::MIN)));
         }
-        let operand = self.inside(tokens, Level::Sign)?;
+        let operand = self.inside(tokens, Production::Sign)?;
         Ok(AstNode::Negate(Boxed::new(self.alloc, operand)?))
     }
 
@@ -149,7 +152,7 @@ impl<F: Fn(Global, &Params, &mut Tokens<'_>, usize, Level) -> Result<Ast, Stop>>
     {
         if tokens.sees_sign(Sign::Plus) {
             self.open(tokens)?;
-            let operand = self.inside(tokens, Level::Sign)?;
+            let operand = self.inside(tokens, Production::Sign)?;
             return Ok(AstNode::Plus(Boxed::new(self.alloc, operand)?));
         }
         if tokens.sees_sign(Sign::Minus) {

@@ -5,13 +5,16 @@ ghost use Rattle.gq_syntax.specs.steps.Parsers as p;
 ghost use Rattle.gq_tokens.specs.Answers.{Reads, ReadsBeside};
 
 use crate::grammar::Grammar;
-use crate::opening::Level;
+use crate::opening::Production;
 use gq_ast::{ArithTerm, Ast, AstNode, Term};
 use gq_base::{ArithOp, Boxed, List};
 use gq_tokens::{Addition, Multiplication, Params, Stop, Tokens, with_many};
 use std::alloc::Global;
 
-impl<F: Fn(Global, &Params, &mut Tokens<'_>, usize, Level) -> Result<Ast, Stop>> Grammar<'_, F> {
+impl<F: Fn(Global, &Params, &mut Tokens<'_>, usize, Production) -> Result<Ast, Stop>> Grammar<
+    '_,
+    F,
+> {
     // What stands behind a sign of multiplication.
     #[tactic(auto, unfolding(crate::specs::steps::Parsers::multiplied))]
     fn multiplied(&self, tokens: &mut Tokens<'_>, op: ArithOp) -> Result<ArithTerm, Stop>
