@@ -11,6 +11,7 @@ ghost use Rattle.gq_plan.specs.Meaning.{holds};
 ghost use Rattle.gq_plan.specs.Soundness.{IsSound, has_number, max_variables};
 ghost use Rattle.gq_plan.specs.Plans.{plan_of, step_of};
 
+use crate::follow::{Follow, following};
 use crate::known::Known;
 use crate::numbers::has_number;
 use crate::plan::{Plan, Step};
@@ -75,25 +76,25 @@ fn takes_step(step: &Step, typed: &Typed, catalog: &Catalog, known: &mut Known) 
             from,
             to,
             direction,
-        } => following(false, *rel, *from, *to, *direction).extends(typed, catalog, known),
+        } => following(*rel, *from, *to, *direction).extends(false, typed, catalog, known),
         Step::ColumnExtend {
             rel,
             from,
             to,
             direction,
-        } => following(true, *rel, *from, *to, *direction).extends(typed, catalog, known),
+        } => following(*rel, *from, *to, *direction).extends(true, typed, catalog, known),
         Step::Close {
             rel,
             from,
             to,
             direction,
-        } => following(false, *rel, *from, *to, *direction).closes(typed, catalog, known),
+        } => following(*rel, *from, *to, *direction).closes(false, typed, catalog, known),
         Step::ColumnClose {
             rel,
             from,
             to,
             direction,
-        } => following(true, *rel, *from, *to, *direction).closes(typed, catalog, known),
+        } => following(*rel, *from, *to, *direction).closes(true, typed, catalog, known),
         Step::Join { side, keys } => {
             let mut own = Known::none();
             takes_plan(side.get(), typed, catalog, &mut own)
@@ -105,25 +106,15 @@ fn takes_step(step: &Step, typed: &Typed, catalog: &Catalog, known: &mut Known) 
     }
 }
 
-// How a step follows a relationship.
-#[derive(Clone, Copy)]
-struct Follow {
-    column: bool,
-    rel: u32,
-    from: u32,
-    to: u32,
-    direction: Direction,
-}
-
 impl Follow {
-    fn extends(self, typed: &Typed, catalog: &Catalog, known: &mut Known) -> bool
+    fn extends(self, column: bool, typed: &Typed, catalog: &Catalog, known: &mut Known) -> bool
         requires { IsSound catalog.now typed.now }
         ensures value { result ≡ fits_extend catalog.now typed.now
-            self.column self.rel self.from self.to self.direction (known_of known.old) }
+            column self.rel self.from self.to self.direction (known_of known.old) }
         ensures bound { result ≡ true
             → known_of known.new ≡ with_node self.to (with_rel self.rel (known_of known.old)) }
     {
-        if !(follows(self, typed, catalog)
+        if !(follows(column, self, typed, catalog)
             && !known.rels.has(self.rel)
             && known.nodes.has(self.from)
             && is_new(self.to, typed, *known))
@@ -135,14 +126,14 @@ impl Follow {
         true
     }
 
-    fn closes(self, typed: &Typed, catalog: &Catalog, known: &mut Known) -> bool
+    fn closes(self, column: bool, typed: &Typed, catalog: &Catalog, known: &mut Known) -> bool
         requires { IsSound catalog.now typed.now }
         ensures value { result ≡ fits_close catalog.now typed.now
-            self.column self.rel self.from self.to self.direction (known_of known.old) }
+            column self.rel self.from self.to self.direction (known_of known.old) }
         ensures bound { result ≡ true
             → known_of known.new ≡ with_rel self.rel (known_of known.old) }
     {
-        if !(follows(self, typed, catalog)
+        if !(follows(column, self, typed, catalog)
             && !known.rels.has(self.rel)
             && known.nodes.has(self.from)
             && known.nodes.has(self.to))
@@ -151,19 +142,6 @@ impl Follow {
         }
         known.rels.insert(self.rel);
         true
-    }
-}
-
-fn following(column: bool, rel: u32, from: u32, to: u32, direction: Direction) -> Follow
-    ensures { result
-        ≡ record { column = column; rel = rel; from = from; to = to; direction = direction } }
-{
-    Follow {
-        column,
-        rel,
-        from,
-        to,
-        direction,
     }
 }
 
@@ -186,30 +164,30 @@ fn is_new(node: u32, typed: &Typed, known: Known) -> bool
 }
 
 // Whether the alternative has a relationship that goes so.
-fn follows(follow: Follow, typed: &Typed, catalog: &Catalog) -> bool
+fn follows(column: bool, follow: Follow, typed: &Typed, catalog: &Catalog) -> bool
     requires { IsSound catalog.now typed.now }
     ensures value { result ≡ holds
-        (goes catalog.now follow.column follow.from follow.to follow.direction)
+        (goes catalog.now column follow.from follow.to follow.direction)
         (slice_get typed.now.rels follow.rel) }
     ensures within { result ≡ true → follow.rel < max_variables }
 {
     match typed.rels.get(follow.rel as usize) {
         None => false,
-        Some(rel) => goes(follow, rel, catalog),
+        Some(rel) => goes(column, follow, rel, catalog),
     }
 }
 
-fn goes(follow: Follow, rel: &TypedRel, catalog: &Catalog) -> bool
+fn goes(column: bool, follow: Follow, rel: &TypedRel, catalog: &Catalog) -> bool
     requires { rel.now.table < length catalog.now.rels }
     ensures { result
-        ≡ fit.goes catalog.now follow.column follow.from follow.to follow.direction rel.now }
+        ≡ fit.goes catalog.now column follow.from follow.to follow.direction rel.now }
 {
     let (start, end) = ends_of(rel, follow.direction);
     let single = catalog
         .rel_table(rel.table)
         .mult
         .is_single(follow.direction);
-    follow.from == start && follow.to == end && follow.column == single
+    follow.from == start && follow.to == end && column == single
 }
 
 /// The node variable from which a relationship is followed in a direction, and the one to which it
