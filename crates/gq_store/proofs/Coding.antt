@@ -13,7 +13,6 @@ use Rattle.gq_base.specs.declared.catalog.Kind.TheVariants as kind
 use Rattle.gq_base.specs.declared.cell.Cell.{Cell}
 use Rattle.gq_base.specs.declared.cell.Cell.TheVariants as cell
 use Rattle.gq_dict.specs.Texts.{AreCodes, IsAscending, text_at}
-use Rattle.gq_dict.proofs.OneDict.{one_dict}
 use Rattle.gq_store.specs.Columns.{AreCells, IsCellOf, IsCode, IsDictOf, IsKept, cell_of, cells_of, flag_code, flag_of, natural, texts_in}
 
 -- ---- one cell
@@ -170,12 +169,3 @@ integers_more n cells codes left rest column c z s h is size next =
           let now = next dict (texts_in (drop (n + 1) cells)) (subst (λ l. AreCodes dict l left) more had.1) in
           (cells_more n dict cells column z had.0 (rw is now.0), now.1);
     }
-
--- ---- one dictionary
-
-pub same_dict : (cells : List (Option Cell)) (d e : List (List ℕ)) → IsDictOf cells d → IsDictOf cells e → d ≡ e
-same_dict cells d e a b = one_dict d e a.ascending b.ascending (λ t has. (b.same t).1 ((a.same t).0 has)) (λ t has. (a.same t).1 ((b.same t).0 has))
-
--- the integers of a column are codes of whatever list is the dictionary of its cells
-pub any_dict : (k : Kind) (d : List (List ℕ)) (column : List (Option ℤ)) → IsKept k d column → (dict : List (List ℕ)) → IsDictOf (cells_of k d column) dict → AreCells dict (cells_of k d column) column
-any_dict k d column s dict is = subst (λ e. AreCells e (cells_of k d column) column) (same_dict (cells_of k d column) d dict s.dict_of is) s.cells

@@ -13,8 +13,8 @@ use Rattle.gq_base.specs.declared.cell.PlainRel.{PlainRel}
 use Rattle.gq_base.specs.declared.catalog.Field.{Field}
 use Rattle.gq_base.specs.declared.cell.Cell.{Cell}
 use Rattle.gq_store.specs.Cells.{node_cell, node_fields, node_fields_of, rel_cell_in, rel_fields, rel_fields_of}
-use Rattle.gq_store.specs.Columns.{column_of, node_cells}
-use Rattle.gq_store.specs.steps.Kept.{AreNodesKept, AreRelsKept, AreTableCells}
+use Rattle.gq_store.specs.Columns.{Encoded, column_of, decoded, node_cells}
+use Rattle.gq_store.specs.steps.Kept.{AreNodesKept, AreRelsKept, AreTableCells, IsPropertyOf}
 use Rattle.gq_store.specs.RelColumns.{cell_numbered, numbers_by_place, rel_cells}
 use Rattle.gq_store.specs.declared.property.TableCells.{TableCells}
 use Rattle.gq_store.proofs.Linking.{pushed}
@@ -37,26 +37,36 @@ column_more property k rows cells row cell item so h is read same =
 -- ---- the properties of a table
 
 -- the first n properties are kept
-pub record AreColumnsBelow (n : ℕ) (cells : ℕ → List (Option Cell)) (properties : List (List (Option Cell))) : Type 0 where
+pub record AreColumnsBelow (n : ℕ) (fields : List Field) (cells : ℕ → List (Option Cell)) (properties : List Encoded) : Type 0 where
   pub len : length properties ≡ n
-  pub each : (property : ℕ) (d : List (Option Cell)) → property < n → get_or properties property d ≡ cells property
+  pub each : (property : ℕ) (d : Encoded) → property < n → IsPropertyOf fields cells property (get_or properties property d)
 
-pub no_columns : (cells : ℕ → List (Option Cell)) → AreColumnsBelow 0 cells []
-no_columns cells = record { len = refl; each = λ property d h. absurd (omega arith) }
+pub no_columns : (fields : List Field) (cells : ℕ → List (Option Cell)) → AreColumnsBelow 0 fields cells []
+no_columns fields cells = record { len = refl; each = λ property d h. absurd (omega arith) }
 
-pub columns_more : (n : ℕ) (cells : ℕ → List (Option Cell)) (properties : List (List (Option Cell))) (next : List (Option Cell)) → AreColumnsBelow n cells properties → next ≡ cells n
-    → AreColumnsBelow (n + 1) cells (properties ++ next ∷ [])
-columns_more n cells properties next s here = record {
+-- a property that has the cells, and the kind of its field
+pub property_kept : (fields : List Field) (cells : ℕ → List (Option Cell)) (property : ℕ) (p : Encoded) (field : Field) → field ≡ get_or fields property field → property < length fields
+    → decoded p ≡ cells property → p.kind ≡ field.kind → IsPropertyOf fields cells property p
+property_kept fields cells property p field is within same kind = record {
+  cells_are = same;
+  kind_is = subst (λ (o : Option Field). IfSome o (λ (f : Field). p.kind ≡ f.kind)) (sym (slice_get-get_or fields property field within)) (kind ∙ ap (λ (f : Field). f.kind) is);
+}
+
+pub columns_more : (n : ℕ) (fields : List Field) (cells : ℕ → List (Option Cell)) (properties : List Encoded) (next : Encoded) → AreColumnsBelow n fields cells properties → IsPropertyOf fields cells n next
+    → AreColumnsBelow (n + 1) fields cells (properties ++ next ∷ [])
+columns_more n fields cells properties next s here = record {
   len = (let had : length properties ≡ n = s.len in omega (arith, length_push properties next));
   each = λ property d h. elim (cases_lt property n) [
     | inl before ↦
         (let had : length properties ≡ n = s.len in
-        get_or_append_left properties (next ∷ []) d property (omega arith) ∙ s.each property d before)
+        let is : get_or (properties ++ next ∷ []) property d ≡ get_or properties property d = get_or_append_left properties (next ∷ []) d property (omega arith) in
+        subst (λ (e : Encoded). IsPropertyOf fields cells property e) (sym is) (s.each property d before))
     | inr last ↦
         (let had : length properties ≡ n = s.len in
         let same : property ≡ n = omega arith in
         let plus : n ≡ length properties + 0 = omega arith in
-        rw same (ap (λ j. get_or (properties ++ next ∷ []) j d) plus ∙ get_or-append-add properties (next ∷ []) 0 d ∙ here))
+        let is : get_or (properties ++ next ∷ []) n d ≡ next = ap (λ j. get_or (properties ++ next ∷ []) j d) plus ∙ get_or-append-add properties (next ∷ []) 0 d in
+        rw (same, is) here)
   ];
 }
 
@@ -135,6 +145,9 @@ AreRelsBelow n g all = AreTablesBelow n (λ rel. length (rels_at g rel)) (λ rel
 pub all_rels_kept : (n : ℕ) (g : Graph) (all : List TableCells) → n ≡ length g.catalog.rels → AreRelsBelow n g all → AreRelsKept g all
 all_rels_kept n g all whole s = record { len = s.len ∙ whole; each = λ rel d h. s.each rel d (let had : length all ≡ n = s.len in omega arith) }
 
+of_fields : (fields others : List Field) (property : ℕ) (p : Encoded) → fields ≡ others → IfSome (slice_get fields property) (λ (f : Field). p.kind ≡ f.kind) → IfSome (slice_get others property) (λ (f : Field). p.kind ≡ f.kind)
+of_fields fields others property p are is = subst (λ (l : List Field). IfSome (slice_get l property) (λ (f : Field). p.kind ≡ f.kind)) are is
+
 -- what is kept of rows and relationships is kept of the graph that has them
 pub node_cells_are : (g : Graph) (table : ℕ) (rows : List (List (Option Cell))) (fields : List Field) (next : TableCells) → slice_get g.nodes table ≡ Some rows → fields ≡ node_fields g table
     → AreTableCells (length rows) fields (λ property. column_of property rows) next → AreTableCells (row_count g.nodes table) (node_fields g table) (λ property. node_cells g table property) next
@@ -143,7 +156,9 @@ node_cells_are g table rows fields next is are s =
     record {
       rows_are = s.rows_are ∙ ap length same;
       len = s.len ∙ ap length are;
-      each = λ property d h. s.each property d (omega (arith, h, ap length are)) ∙ ap (λ r. column_of property r) same;
+      each = λ property d h.
+          let at = s.each property d (omega (arith, h, ap length are)) in
+          record { cells_are = at.cells_are ∙ ap (λ r. column_of property r) same; kind_is = of_fields fields (node_fields g table) property (get_or next.properties.items property d) are at.kind_is };
     }
 
 pub rel_cells_are : (g : Graph) (rel : ℕ) (rels : List PlainRel) (fields : List Field) (numbers : List (Option ℕ)) (next : TableCells) → slice_get g.rels rel ≡ Some rels → fields ≡ rel_fields g rel → numbers ≡ numbers_by_place g rel
@@ -153,8 +168,12 @@ rel_cells_are g rel rels fields numbers next is are told s =
     record {
       rows_are = s.rows_are ∙ ap length same;
       len = s.len ∙ ap length are;
-      each = λ property d h. s.each property d (omega (arith, h, ap length are)) ∙ ap (λ (r : List PlainRel). map (λ number. cell_numbered property r number) numbers) same
-          ∙ ap (λ l. map (λ number. cell_numbered property (rels_at g rel) number) l) told;
+      each = λ property d h.
+          let at = s.each property d (omega (arith, h, ap length are)) in
+          record {
+            cells_are = at.cells_are ∙ ap (λ (r : List PlainRel). map (λ number. cell_numbered property r number) numbers) same ∙ ap (λ l. map (λ number. cell_numbered property (rels_at g rel) number) l) told;
+            kind_is = of_fields fields (rel_fields g rel) property (get_or next.properties.items property d) are at.kind_is;
+          };
     }
 
 all_fit : (fields : List Field) (n m : ℕ) (rels : List PlainRel) → list_all (is_rel fields n m) rels ≡ true → list_all (λ (r : PlainRel). fits_fields fields r.cells) rels ≡ true
@@ -228,8 +247,8 @@ module _ (count : ℕ) (fields : List Field) (cells : ℕ → List (Option Cell)
   pub property_reach : property < length kept.properties.items
   property_reach = omega (arith, s.len, within)
 
-  pub property_at : (is : List (Option Cell)) → is ≡ get_or kept.properties.items property is → is ≡ cells property
-  property_at is read = read ∙ s.each property is within
+  pub property_at : (p : Encoded) → p ≡ get_or kept.properties.items property p → IsPropertyOf fields cells property p
+  property_at p read = subst (λ (e : Encoded). IsPropertyOf fields cells property e) (sym read) (s.each property p within)
 
 -- a table that is kept
 pub node_table_at : (g : Graph) (all : List TableCells) (table : ℕ) (kept : TableCells) → AreNodesKept g all → table < length all → kept ≡ get_or all table kept
@@ -240,15 +259,21 @@ pub rel_table_at : (g : Graph) (all : List TableCells) (rel : ℕ) (kept : Table
     → AreTableCells (length (rels_at g rel)) (rel_fields g rel) (λ property. rel_cells g rel property) kept
 rel_table_at g all rel kept s low read = subst (AreTableCells (length (rels_at g rel)) (rel_fields g rel) (λ property. rel_cells g rel property)) (sym read) (s.each rel kept low)
 
--- the cells of a property of a table that is kept
-pub node_cells_at : (of g : Graph) (all : List TableCells) (table property : ℕ) (kept : TableCells) (cells : List (Option Cell)) → AreNodesKept of all → of ≡ g → table < length g.catalog.nodes
-    → kept ≡ get_or all table kept → property < length (node_fields g table) → cells ≡ get_or kept.properties.items property cells → cells ≡ node_cells g table property
-node_cells_at of g all table property kept cells s view within kept_is inside cells_is =
-    let at : AreNodesKept g all = subst (λ (p : Graph). AreNodesKept p all) view s in
-    property_at _ _ _ kept property (node_table_at g all table kept at (omega (arith, at.len, within)) kept_is) inside cells cells_is
+-- a property of a table that is kept
+pub node_property_at : (of g : Graph) (all : List TableCells) (table property : ℕ) (kept : TableCells) (p : Encoded) → AreNodesKept of all → of ≡ g → table < length g.catalog.nodes
+    → kept ≡ get_or all table kept → property < length (node_fields g table) → p ≡ get_or kept.properties.items property p → IsPropertyOf (node_fields g table) (λ property. node_cells g table property) property p
+node_property_at of g all table property kept p s view within kept_is inside is =
+    let at : AreNodesKept g all = subst (λ (q : Graph). AreNodesKept q all) view s in
+    property_at _ _ _ kept property (node_table_at g all table kept at (omega (arith, at.len, within)) kept_is) inside p is
 
-pub rel_cells_at : (of g : Graph) (all : List TableCells) (rel property : ℕ) (kept : TableCells) (cells : List (Option Cell)) → AreRelsKept of all → of ≡ g → rel < length g.catalog.rels
-    → kept ≡ get_or all rel kept → property < length (rel_fields g rel) → cells ≡ get_or kept.properties.items property cells → cells ≡ rel_cells g rel property
-rel_cells_at of g all rel property kept cells s view within kept_is inside cells_is =
-    let at : AreRelsKept g all = subst (λ (p : Graph). AreRelsKept p all) view s in
-    property_at _ _ _ kept property (rel_table_at g all rel kept at (omega (arith, at.len, within)) kept_is) inside cells cells_is
+pub rel_property_at : (of g : Graph) (all : List TableCells) (rel property : ℕ) (kept : TableCells) (p : Encoded) → AreRelsKept of all → of ≡ g → rel < length g.catalog.rels
+    → kept ≡ get_or all rel kept → property < length (rel_fields g rel) → p ≡ get_or kept.properties.items property p → IsPropertyOf (rel_fields g rel) (λ property. rel_cells g rel property) property p
+rel_property_at of g all rel property kept p s view within kept_is inside is =
+    let at : AreRelsKept g all = subst (λ (q : Graph). AreRelsKept q all) view s in
+    property_at _ _ _ kept property (rel_table_at g all rel kept at (omega (arith, at.len, within)) kept_is) inside p is
+
+-- the cell of a node, where its property's cells are these
+pub node_cell_of : (g : Graph) (table property row : ℕ) (cells : List (Option Cell)) → cells ≡ node_cells g table property → row < row_count g.nodes table → (row < length cells) × (get_or cells row None ≡ node_cell g table property row)
+node_cell_of g table property row cells are h =
+    let size : length (node_cells g table property) ≡ row_count g.nodes table = length-map (rows_of (slice_get g.nodes table)) (λ r. cell_at r (Some property)) in
+    (omega (arith, h, size, ap length are), ap (λ (l : List (Option Cell)). get_or l row None) are ∙ column_at g table property row h)

@@ -15,7 +15,6 @@ use Rattle.gq_base.specs.declared.Mult.TheVariants.{ManyMany, ManyOne, OneMany, 
 use Rattle.gq_base.specs.Valid.{is_valid}
 use Rattle.gq_edges.specs.Once.{Pair, pair_at}
 use Rattle.gq_store.specs.Cells.{rel_cell}
-use Rattle.gq_store.specs.Cells.{rel_fields}
 use Rattle.gq_store.specs.Neighbours.{allows_many, is_listed, mult_at, near_ends, near_rows}
 use Rattle.gq_store.specs.Places.{by_source, first_number, number_at, number_in}
 use Rattle.gq_store.specs.RelColumns.{cell_numbered, numbers_by_place, place_count, place_count_in, rel_cells}
@@ -29,7 +28,6 @@ use Rattle.gq_store.specs.declared.links.Places.TheVariants.{Sources, Targets}
 use Rattle.gq_store.specs.declared.links.Side.TheVariants.{Listed, Single}
 use Rattle.gq_store.specs.declared.links.Side.{Side}
 use Rattle.gq_store.specs.declared.property.TableCells.{TableCells}
-use Rattle.gq_store.proofs.Keeping.{rel_cells_at}
 use Rattle.gq_store.proofs.Picking.{length-range}
 use Rattle.gq_store.proofs.Reading.{clash, kept_column, kept_lists, number_at_source, number_at_target, single_row, sources_is, targets_is}
 use Rattle.gq_store.proofs.Reading.{in_pages, number_below, paged_below, row_within}
@@ -168,11 +166,10 @@ module _ (g : Graph) (rel : ℕ) (links : Links) (linked : IsLinked g rel links)
 
 -- the cell of a property at the place of a number, in a graph that is stored
 pub stored_rel_cell : (of g : Graph) (catalog : Tables) (nodes rels : List TableCells) (links : List Links) → IsStored of catalog nodes rels links → of ≡ g
-    → (rel property place number : ℕ) (kept : TableCells) (cells : List (Option Cell)) → rel < length g.catalog.rels → property < length (rel_fields g rel) → number_at g rel place ≡ Some number
-    → kept ≡ get_or rels rel kept → cells ≡ get_or kept.properties.items property cells → (place < length cells) × (get_or cells place None ≡ rel_cell g rel property number)
-stored_rel_cell of g catalog nodes rels links stored view rel property place number kept cells within inside is kept_is cells_is =
+    → (rel property place number : ℕ) (cells : List (Option Cell)) → rel < length g.catalog.rels → number_at g rel place ≡ Some number → cells ≡ rel_cells g rel property
+    → (place < length cells) × (get_or cells place None ≡ rel_cell g rel property number)
+stored_rel_cell of g catalog nodes rels links stored view rel property place number cells within is are =
     let s : IsStored g catalog nodes rels links = subst (λ (p : Graph). IsStored p catalog nodes rels links) view stored in
-    let are : cells ≡ rel_cells g rel property = rel_cells_at g g rels rel property kept cells s.rel_cells refl within kept_is inside cells_is in
     let reach : place < place_count g rel = place_reach g rel s.valid within links s.linked place number is in (
       omega (arith, ap (λ (l : List (Option Cell)). length l) are, length-rel_cells g rel property, reach),
       ap (λ (l : List (Option Cell)). get_or l place None) are ∙ rel_column_at g rel property place number reach is,

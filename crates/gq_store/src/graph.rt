@@ -1,5 +1,5 @@
 //! A graph as queries read it.
-ghost use Rattle.std.specs.Prelude.{◌≡◌, ◌≢◌, ℕ, ◌+◌, ◌<◌, ◌≤◌, ◌^◌, true, false, List, length};
+ghost use Rattle.std.specs.Prelude.{◌≡◌, ◌≢◌, ◌+◌, ◌<◌, ◌≤◌, ◌^◌, true, false, length};
 ghost use Rattle.std.specs.Prelude.{slice_get, All, IfOk, IfSome, Some, None};
 ghost use Rattle.gq_adj.specs.Adjacent.{targets};
 ghost use Rattle.gq_base.specs.Directions.{opposite};
@@ -8,7 +8,7 @@ ghost use Rattle.gq_base.specs.Valid.{is_valid, row_count};
 ghost use Rattle.gq_base.specs.Values.{val};
 ghost use Rattle.gq_base.specs.declared.Mult.TheVariants.{ManyMany};
 ghost use Rattle.gq_store.specs.Cells.{node_cell, node_fields, rel_cell, rel_fields};
-ghost use Rattle.gq_store.specs.Columns.{AreCells, IsDictOf, node_cells};
+ghost use Rattle.gq_store.specs.Columns.{decoded, node_cells};
 ghost use Rattle.gq_store.specs.Neighbours.{is_listed, mult_at, near_ends, near_rows, neighbours};
 ghost use Rattle.gq_store.specs.Neighbours.{numbers};
 ghost use Rattle.gq_store.specs.Places.{by_source, first_number, number_at};
@@ -17,10 +17,8 @@ ghost use Rattle.gq_store.specs.steps.Stored.{IsLinked, IsSide};
 
 use crate::building::{all_nodes, all_rels};
 use crate::links::{Links, Places, Side};
-use crate::property::TableCells;
+use crate::property::{Property, TableCells};
 use gq_base::{Catalog, Direction, Memory, Value};
-use gq_column::Column;
-use gq_dict::Dict;
 use gq_plain::PlainGraph;
 use std::alloc::Global;
 use std::marker::Model;
@@ -217,27 +215,19 @@ impl Graph {
         requires row { row < row_count self.now.nodes table }
         ensures { val result ≡ cell_val (node_cell self.now table property row) }
     {
-        self.nodes[table as usize].properties[property as usize].value(row)
+        self.node_property(table, property).value(row)
     }
 
-    /// The cells of a property of a node table, row by row: an integer is itself, a boolean 0 or 1,
-    /// a text its code in `node_dict`.
-    pub fn node_column(&self, table: u32, property: u32) -> &Column
+    /// A property of a node table, by its place in the table: its cells stand row by row.
+    #[inline(always)]
+    pub fn node_property(&self, table: u32, property: u32) -> &Property
         requires within { table < length self.now.catalog.nodes }
         requires property { property < length (node_fields self.now table) }
-        ensures { (dict : List (List ℕ)) → IsDictOf (node_cells self.now table property) dict →
-            AreCells dict (node_cells self.now table property) result.now }
+        ensures cells { decoded result.now ≡ node_cells self.now table property }
+        ensures kind { IfSome (slice_get (node_fields self.now table) property)
+            (λ field. result.now.kind ≡ field.kind) }
     {
-        self.nodes[table as usize].properties[property as usize].column()
-    }
-
-    /// The texts of a property of a node table, each once, ascending by bytes.
-    pub fn node_dict(&self, table: u32, property: u32) -> &Dict
-        requires within { table < length self.now.catalog.nodes }
-        requires property { property < length (node_fields self.now table) }
-        ensures { IsDictOf (node_cells self.now table property) result.now }
-    {
-        self.nodes[table as usize].properties[property as usize].dict()
+        &self.nodes[table as usize].properties[property as usize]
     }
 
     /// The value of a property of the relationship with a load number, by the property's place in
@@ -253,24 +243,17 @@ impl Graph {
         self.rels[rel as usize].properties[property as usize].value(place)
     }
 
-    /// The cells of a property of a relationship table, place by place, null at a place that has no
-    /// relationship: an integer is itself, a boolean 0 or 1, a text its code in `rel_dict`.
-    pub fn rel_column(&self, rel: u32, property: u32) -> &Column
+    /// A property of a relationship table, by its place in the table: its cells stand place by
+    /// place, null at a place that has no relationship.
+    #[inline(always)]
+    pub fn rel_property(&self, rel: u32, property: u32) -> &Property
         requires within { rel < length self.now.catalog.rels }
         requires property { property < length (rel_fields self.now rel) }
-        ensures { (dict : List (List ℕ)) → IsDictOf (rel_cells self.now rel property) dict →
-            AreCells dict (rel_cells self.now rel property) result.now }
+        ensures cells { decoded result.now ≡ rel_cells self.now rel property }
+        ensures kind { IfSome (slice_get (rel_fields self.now rel) property)
+            (λ field. result.now.kind ≡ field.kind) }
     {
-        self.rels[rel as usize].properties[property as usize].column()
-    }
-
-    /// The texts of a property of a relationship table, each once, ascending by bytes.
-    pub fn rel_dict(&self, rel: u32, property: u32) -> &Dict
-        requires within { rel < length self.now.catalog.rels }
-        requires property { property < length (rel_fields self.now rel) }
-        ensures { IsDictOf (rel_cells self.now rel property) result.now }
-    {
-        self.rels[rel as usize].properties[property as usize].dict()
+        &self.rels[rel as usize].properties[property as usize]
     }
 
     // How the relationships of a table are kept.

@@ -6,7 +6,8 @@ ghost use Rattle.gq_base.specs.Plain.{cell_val};
 ghost use Rattle.gq_base.specs.Valid.{fits_fields, is_of_kind};
 ghost use Rattle.gq_base.specs.Values.{val};
 ghost use Rattle.gq_dict.specs.Texts.{AreCodes};
-ghost use Rattle.gq_store.specs.Columns.{AreCells, IsCellOf, IsDictOf, column_of, texts_in};
+ghost use Rattle.gq_store.specs.Columns.{AreCells, IsCellOf, IsDictOf, column_of, decoded};
+ghost use Rattle.gq_store.specs.Columns.{texts_in};
 ghost use Rattle.gq_store.specs.RelColumns.{cell_numbered};
 
 use gq_base::{Cell, Field, Kind, Memory, NodeRows, RelRows, Value};
@@ -15,26 +16,25 @@ use gq_dict::{Coded, Dict};
 use std::alloc::Global;
 use std::marker::Model;
 
-/// The cells of a property, of fewer than 2^32 rows: integers as they are, booleans as 0 and 1,
-/// texts as codes of the dictionary, which is empty where the property is of another kind. It is
-/// seen as the list of its optional cells.
+/// The cells of a property, of fewer than 2^32 rows: those of a node table by row, those of a
+/// relationship table by place, null at a place that has no relationship. They are of one kind, and
+/// stand as a column of integers: an integer as itself, a boolean as 0 or 1, a text as its code in
+/// the dictionary of the texts among them, which is empty where the kind is another.
 #[derive(Drop)]
-pub(crate) struct Property {
+pub struct Property {
     kind: Kind,
     column: Column,
     dict: Dict,
 }
 
 impl Model for Property {
-    ghost use Rattle.std.specs.Prelude.{List};
-    ghost use Rattle.std.specs.declared.option.Option.{Option};
-    ghost use Rattle.gq_base.specs.declared.cell.Cell.{Cell};
+    ghost use Rattle.gq_store.specs.Columns.{Encoded};
 
-    ghost Value = { List (Option Cell) };
+    ghost Value = { Encoded };
 
-    ghost use Rattle.gq_store.specs.Columns.{IsKept, cells_of};
+    ghost use Rattle.gq_store.specs.Columns.{IsKept};
 
-    ghost view = { λ p. cells_of p.kind p.dict p.column };
+    ghost view = { λ p. record { kind = p.kind; dict = p.dict; column = p.column } };
 
     ghost invariant = { λ p. IsKept p.kind p.dict p.column };
 }
@@ -49,7 +49,9 @@ impl Property {
         requires few { length cells.now < 2 ^ 32 }
         requires kinds { All (λ cell. is_of_kind kind cell ≡ true)
             (map (λ cell. cell.now) cells.now) }
-        ensures { IfOk result (λ property. property ≡ map (λ cell. cell.now) cells.now) }
+        ensures cells { IfOk result (λ property.
+            decoded property ≡ map (λ cell. cell.now) cells.now) }
+        ensures kind { IfOk result (λ property. property.kind ≡ kind) }
     {
         let Coded { dict, codes } = Coded::build(alloc, texts_of(alloc, kind, cells)?)?;
         let integers = integers_of(alloc, cells, codes.as_slice())?;
@@ -57,11 +59,27 @@ impl Property {
         Ok(Property { kind, column, dict })
     }
 
+    /// The kind of its cells.
+    #[inline(always)]
+    pub fn kind(&self) -> Kind
+        ensures { result ≡ self.now.kind }
+    {
+        self.kind
+    }
+
+    /// How many rows or places it has.
+    #[inline(always)]
+    pub fn len(&self) -> u32
+        ensures { result ≡ length (decoded self.now) }
+    {
+        self.column.len()
+    }
+
     /// The value of a cell, or null.
     #[inline(always)]
-    pub(crate) fn value(&self, row: u32) -> Value<'_>
-        requires { row < length self.now }
-        ensures { val result ≡ cell_val (slice_index_or self.now row None) }
+    pub fn value(&self, row: u32) -> Value<'_>
+        requires { row < length (decoded self.now) }
+        ensures { val result ≡ cell_val (slice_index_or (decoded self.now) row None) }
     {
         match (self.column.get(row), self.kind) {
             (None, _) => Value::Null,
@@ -72,16 +90,19 @@ impl Property {
     }
 
     /// The cells as integers, in which a text has its code in the dictionary.
-    pub(crate) fn column(&self) -> &Column
-        ensures { (dict : List (List ℕ)) → IsDictOf self.now dict →
-            AreCells dict self.now result.now }
+    #[inline(always)]
+    pub fn column(&self) -> &Column
+        ensures is { result.now ≡ self.now.column }
+        ensures cells { AreCells self.now.dict (decoded self.now) result.now }
     {
         &self.column
     }
 
-    /// The texts among the cells, ascending by bytes.
-    pub(crate) fn dict(&self) -> &Dict
-        ensures { IsDictOf self.now result.now }
+    /// The texts among the cells, each once, ascending by bytes.
+    #[inline(always)]
+    pub fn dict(&self) -> &Dict
+        ensures is { result.now ≡ self.now.dict }
+        ensures texts { IsDictOf (decoded self.now) result.now }
     {
         &self.dict
     }

@@ -22,8 +22,8 @@ invariant_of-result c =
     (kept c.args.kind c.in_ok-dict.field-0.dict c.args.cells.now c.in_ok-integers.integers c.in_ok-column.column c.in_ok-texts_of.field-0.items c.requires.few c.in_ok-dict.ensures.few c.requires.kinds
     c.in_ok-dict.ensures.ascending c.in_ok-dict.ensures.same c.in_ok-texts_of.ensures.value (c.in_ok-integers.ensures c.in_ok-dict.field-0.dict (rw c.as_slice.ensures.value codes)) c.in_ok-column.ensures).1
 
-pub returns : goal.returns
-returns c =
+pub returns-clause-cells : goal.returns-clause-cells
+returns-clause-cells c =
     let codes : AreCodes c.in_ok-dict.field-0.dict (texts_in (map (λ (cell : Bor (Option Cell)). cell.now) c.args.cells.now)) c.in_ok-dict.field-0.codes.items = rw c.in_ok-texts_of.ensures.value at c.in_ok-dict.ensures.codes in
     (kept c.args.kind c.in_ok-dict.field-0.dict c.args.cells.now c.in_ok-integers.integers c.in_ok-column.column c.in_ok-texts_of.field-0.items c.requires.few c.in_ok-dict.ensures.few c.requires.kinds
     c.in_ok-dict.ensures.ascending c.in_ok-dict.ensures.same c.in_ok-texts_of.ensures.value (c.in_ok-integers.ensures c.in_ok-dict.field-0.dict (rw c.as_slice.ensures.value codes)) c.in_ok-column.ensures).0
