@@ -1,5 +1,5 @@
 -- What a column tells of the tests of a trail's other end.
-use Rattle.std.proofs.Common.{◌≡◌, ◌∙◌, ◌<◌, ℕ, zero, suc, true, List, [], ◌∷◌, Some, None, refl, sym, ap, subst}
+use Rattle.std.proofs.Common.{◌≡◌, ◌∙◌, ◌<◌, Bor, ℕ, ℤ, zero, suc, true, List, [], ◌∷◌, Option, Some, None, length, refl, sym, ap, subst}
 use Rattle.std.specs.Prelude.{if◌then◌else◌, slice_get}
 use Rattle.std.specs.List.{Contains, list_all}
 use Rattle.std.proofs.lemmas.Bool.{and_parts, eq-eqb}
@@ -11,10 +11,10 @@ use Rattle.gq_expr.specs.Reading.{Assignment, node_property, property_at}
 use Rattle.gq_filter.specs.Cells.{IsInLane}
 use Rattle.gq_filter.specs.Deciding.{Decides}
 use Rattle.gq_filter.specs.Feeds.{IsNodeFeed}
+use Rattle.gq_filter.specs.LaneTests.{holds}
 use Rattle.gq_filter.specs.Sources.{AreLanes, AreSources, property_of, value_of}
-use Rattle.gq_filter.specs.declared.feeds.Feed.{Feed}
 use Rattle.gq_filter.specs.declared.lane_test.LaneTest.{LaneTest}
-use Rattle.gq_filter.specs.declared.source.LaneSource.{LaneSource}
+use Rattle.gq_filter.specs.declared.source.Feed.{Feed}
 use Rattle.gq_filter.proofs.Deciding.{kept_by}
 use Rattle.gq_law_trails.specs.Trails.{fits_end}
 use Rattle.gq_plan.specs.Conditions.{passes}
@@ -29,24 +29,24 @@ one_is : {X : Type 0} (x y : X) → Some x ≡ Some y → x ≡ y
 one_is x y e = cc e
 
 -- one source of lanes
-only : (source : LaneSource) (lane : ℕ) (s : LaneSource) → slice_get (source ∷ []) lane ≡ Some s → source ≡ s
+only : (source : Feed) (lane : ℕ) (s : Feed) → slice_get (source ∷ []) lane ≡ Some s → source ≡ s
 only source zero s is = one_is source s is
 only source (suc lane) s is = absurd (cc is)
 
 -- where a variable has a node of a table, the lane of a feed has the value of the node's property, by its row
 node_lane : (g : Graph) (variable table row : ℕ) (name : List ℕ) (feed : Feed) (at : Assignment) → IsNodeFeed g variable table name feed →
     at.nodes variable ≡ Some (record { table = table; row = row }) → row < row_count g.nodes table →
-    IsInLane feed.source.kind feed.source.dict.now (value_of g at feed.source) (cell_at feed.column.now row)
+    IsInLane feed.property.now.kind feed.property.now.dict (value_of g at feed) (cell_at feed.property.now.column row)
 node_lane g variable table row name feed at feeds is h =
-    let value : value_of g at feed.source ≡ node_property g (record { table = table; row = row }) name =
-    ap (λ v. property_of g at v feed.source.name.now) feeds.variable_is ∙ ap (property_of g at (variables.Node variable)) feeds.name_is ∙ ap (λ o. property_at (node_property g) o name) is in
-    subst (λ v. IsInLane feed.source.kind feed.source.dict.now v (cell_at feed.column.now row)) (sym value) (feeds.cells row h)
+    let value : value_of g at feed ≡ node_property g (record { table = table; row = row }) name =
+    ap (λ v. property_of g at v feed.name.now) feeds.variable_is ∙ ap (property_of g at (variables.Node variable)) feeds.name_is ∙ ap (λ o. property_at (node_property g) o name) is in
+    subst (λ v. IsInLane feed.property.now.kind feed.property.now.dict v (cell_at feed.property.now.column row)) (sym value) (feeds.cells row h)
 
 module _ (g : Graph) (p : TrailPart) (table : ℕ) (name : List ℕ) (feed : Feed) (feeds : IsNodeFeed g p.to table name feed) where
-  pub source_of : AreSources (feed.source ∷ [])
+  pub source_of : AreSources (feed ∷ [])
   source_of = record {
-    ascending = λ lane s is. rw (← only feed.source lane s is) feeds.dict_is.ascending;
-    one_dict = λ i j s t here there same. ap (λ (k : LaneSource). k.dict.now) (sym (only feed.source i s here) ∙ only feed.source j t there);
+    ascending = λ lane s is. rw (← only feed lane s is) feeds.dict_is.ascending;
+    one_dict = λ i j s t here there same. ap (λ (k : Feed). k.property.now.dict) (sym (only feed i s here) ∙ only feed j t there);
   }
 
   -- the row in which the other end is tested
@@ -56,9 +56,9 @@ module _ (g : Graph) (p : TrailPart) (table : ℕ) (name : List ℕ) (feed : Fee
   node_there : (r : ℕ) → (end_row r).nodes p.to ≡ Some (record { table = table; row = r })
   node_there r = ap (λ b. if b then Some (record { table = table; row = r }) else None) (eq-eqb p.to p.to refl)
 
-  lanes_are : (r : ℕ) → r < row_count g.nodes table → AreLanes g (end_row r) (feed.source ∷ []) (row_cell feed.column.now r)
+  lanes_are : (r : ℕ) → r < row_count g.nodes table → AreLanes g (end_row r) (feed ∷ []) (row_cell feed.property.now.column r)
   lanes_are r low zero s is =
-      subst (λ (t : LaneSource). IsInLane t.kind t.dict.now (value_of g (end_row r) t) (row_cell feed.column.now r 0)) (one_is feed.source s is)
+      subst (λ (t : Feed). IsInLane t.property.now.kind t.property.now.dict (value_of g (end_row r) t) (row_cell feed.property.now.column r 0)) (one_is feed s is)
       (node_lane g p.to table r name feed (end_row r) feeds (node_there r) low)
   lanes_are r low (suc lane) s is = absurd (cc is)
 
@@ -70,8 +70,9 @@ module _ (g : Graph) (p : TrailPart) (table : ℕ) (name : List ℕ) (feed : Fee
         ap (passes g (end_row r)) (sym has.2) ∙ all-at (passes g (end_row r)) p.tests has.0 asked all has.1
 
     -- where a column decides a test, what it says is needed
-    pub needed : (test : LaneTest) → Decides true (feed.source ∷ []) asked.expr test → IsNeeded g p table (record { column = feed.column; test = test })
-    needed test decides = record {
-      rows = feeds.rows;
-      true_there = λ r low fits. kept_by (feed.source ∷ []) asked test g (end_row r) (row_cell feed.column.now r) decides (lanes_are r low) ∙ passes_there r fits;
+    pub needed : (test : LaneTest) (column : Bor (List (Option ℤ))) → column.now ≡ feed.property.now.column → Decides true (feed ∷ []) asked.expr test → IsNeeded g p table (record { column = column; test = test })
+    needed test column is decides = record {
+      rows = ap length is ∙ feeds.rows;
+      true_there = λ r low fits.
+          subst (λ cells. holds (row_cell cells r) test ≡ true) (sym is) (kept_by (feed ∷ []) asked test g (end_row r) (row_cell feed.property.now.column r) decides (lanes_are r low) ∙ passes_there r fits);
     }

@@ -62,10 +62,10 @@ fn end_test<'g>(
         None => return Ok(None),
         Some(feed) => feed,
     };
-    match compile(alloc, expr, &[feed.source])? {
+    match compile(alloc, expr, &[feed])? {
         None => Ok(None),
         Some(test) => Ok(Some(EndTest {
-            column: feed.column,
+            column: feed.property.column(),
             test,
         })),
     }

@@ -39,22 +39,22 @@ module _ (part : Part) (dict : List (List ℕ)) (low : ℕ) where
   }
 
 -- of no code it is told
-pub known_none : (test : Option PartTest) (codes : ℕ) (s : RowsTold) → IfSome test (λ t. codes ≤ length t.dict.now) → s ≡ nothing_told codes → AreKnown test s
+pub known_none : (test : Option PartTest) (codes : ℕ) (s : RowsTold) → IfSome test (λ t. codes ≤ length t.property.now.dict) → s ≡ nothing_told codes → AreKnown test s
 known_none None codes s few is = tt
 known_none (Some t) codes s few is = subst (IsKnown t) (sym is) (record { few = few; tells = λ code lt. absurd (omega (arith, lt)) })
 
 -- without a code there is always room
-pub no_codes : (test : Option PartTest) → IfSome test (λ t. 0 ≤ length t.dict.now)
+pub no_codes : (test : Option PartTest) → IfSome test (λ t. 0 ≤ length t.property.now.dict)
 no_codes None = tt
 no_codes (Some t) = omega arith
 
-pub all_codes : (test : Option PartTest) (codes : ℕ) → IfSome test (λ t. codes ≡ length t.dict.now) → IfSome test (λ t. codes ≤ length t.dict.now)
+pub all_codes : (test : Option PartTest) (codes : ℕ) → IfSome test (λ t. codes ≡ length t.property.now.dict) → IfSome test (λ t. codes ≤ length t.property.now.dict)
 all_codes None codes is = tt
 all_codes (Some t) codes is = omega (arith, is)
 
 -- the next piece, which was tried, and of which it may be told
 pub known_tried : (t : PartTest) (old : RowsTold) → IsKnown t old → (low high : ℕ) → low ≡ length old.told → high ≡ next_end old → (marks : List Bool)
-    → ((k : ℕ) → k < high - low → is_marked marks k ≡ is_in t.part (text_at t.dict.now (low + k)))
+    → ((k : ℕ) → k < high - low → is_marked marks k ≡ is_in t.part (text_at t.property.now.dict (low + k)))
     → (told : Bool) (new : RowsTold) → new ≡ cond told (also_told old marks) old → IsKnown t new
 known_tried t old known low high from upto marks tried false new is = subst (IsKnown t) (sym is) known
 known_tried t old known low high from upto marks tried true new is =
@@ -70,7 +70,7 @@ known_tried t old known low high from upto marks tried true new is =
             let there : low + k ≡ code = omega (arith, late, from) in
             get_or-append_right old.told (take (next_end old - length old.told) marks) (length old.told) code false refl late
             ∙ get_or-take (next_end old - length old.told) marks k false below ∙ tried k (omega (arith, below, from, upto))
-            ∙ ap (λ c. is_in t.part (text_at t.dict.now c)) there)
+            ∙ ap (λ c. is_in t.part (text_at t.property.now.dict c)) there)
       ];
     })
 
@@ -80,5 +80,5 @@ pub rows_kept : (g : Graph) (y : Typed) (condition : NamedExpr) (t : PartTest) �
     (k : ℕ) → is_marked new k ≡ (is_marked old k && passes g (as_read y (with_row variable (row_in rows k) row)) condition)
 rows_kept g y condition t decides variable of row inside rows old new kept k =
     let there = ap (slice_get (slice_set row.nodes variable (row_in rows k))) of ∙ put_in row.nodes variable (row_in rows k) inside in
-    let cell = ap (λ o. coded_passes t.dict.now t.part (code_in (length t.dict.now) (cell_in t.column.now o))) there in
+    let cell = ap (λ o. coded_passes t.property.now.dict t.part (code_in (length t.property.now.dict) (cell_in t.property.now.column o))) there in
     kept k ∙ ap (λ b. is_marked old k && b) (sym cell ∙ decides (with_row variable (row_in rows k) row))

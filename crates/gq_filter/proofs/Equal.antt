@@ -10,7 +10,7 @@ use Rattle.gq_filter.specs.Equal.{AreOne, HaveOne, cell_if, node_cell}
 use Rattle.gq_filter.specs.LaneTests.{holds, pass}
 use Rattle.gq_filter.specs.declared.equalities.EqualColumns.{EqualColumns}
 use Rattle.gq_filter.specs.declared.equalities.NodeColumn.{NodeColumn}
-use Rattle.gq_filter.specs.declared.feeds.Feed.{Feed}
+use Rattle.gq_filter.specs.declared.source.Feed.{Feed}
 use Rattle.gq_filter.specs.declared.lane_test.LaneTest.{LaneTest}
 use Rattle.gq_filter.specs.steps.RowCells.{DecidesRows, cell_in, cell_of, cells_of, lane_of}
 use Rattle.gq_lanes.specs.Tests.{compares}
@@ -32,12 +32,12 @@ pub have_one : (e : EqualColumns) (row : Assignment) (left right : Option ℤ) �
 have_one e row left right l r one = record { value = one.value; left_is = sym l ∙ one.left_is; right_is = sym r ∙ one.right_is }
 
 -- the lane of a feed of a node variable
-pub feed_cell : (g : Graph) (feeds : List Feed) (row : Assignment) (lane : ℕ) (feed : Feed) (node : ℕ) (c : NodeColumn) → slice_get feeds lane ≡ Some feed → feed.source.variable ≡ Node node → c.node ≡ node → c.column.now ≡ feed.column.now
+pub feed_cell : (g : Graph) (feeds : List Feed) (row : Assignment) (lane : ℕ) (feed : Feed) (node : ℕ) (c : NodeColumn) → slice_get feeds lane ≡ Some feed → feed.variable ≡ Node node → c.node ≡ node → c.column.now ≡ feed.property.now.column
     → cells_of g feeds row lane ≡ node_cell c row
 feed_cell g feeds row lane feed node c there is node_is column_is =
-    ap (cell_of g row) there ∙ ap (lane_of g row feed) is ∙ ap (λ v. cell_in feed.column.now (slice_get row.nodes v)) (sym node_is) ∙ same (slice_get row.nodes c.node)
+    ap (cell_of g row) there ∙ ap (lane_of g row feed) is ∙ ap (λ v. cell_in feed.property.now.column (slice_get row.nodes v)) (sym node_is) ∙ same (slice_get row.nodes c.node)
   where
-    same : (o : Option ℕ) → cell_in feed.column.now o ≡ cell_if c o
+    same : (o : Option ℕ) → cell_in feed.property.now.column o ≡ cell_if c o
     same None = refl
     same (Some r) = ap (λ cells. cell_at cells r) (sym column_is)
 

@@ -8,7 +8,7 @@ use Rattle.std.proofs.lemmas.List.Elements.{All-get_or}
 use Rattle.gq_bits.specs.Places.{is_marked}
 use Rattle.gq_row_sets.specs.Rows.{RowsTold, also_told, next_end}
 use Rattle.gq_filter.specs.LaneTests.{holds}
-use Rattle.gq_filter.specs.declared.feeds.Feed.{Feed}
+use Rattle.gq_filter.specs.declared.source.Feed.{Feed}
 use Rattle.gq_filter.specs.declared.lane_test.LaneTest.{LaneTest}
 use Rattle.gq_filter.specs.steps.Recalling.{TellsOf, TellsTest}
 use Rattle.gq_filter.specs.RowLists.{cells_at, feed_cell}
@@ -18,7 +18,7 @@ use Rattle.gq_filter.specs.steps.SpanLanes.{span_cell}
 module _ (feeds : List Feed) (low high k : ℕ) (below : k < high - low) where
   one_cell : (o : Option Feed) → span_cell low high o k ≡ feed_cell (low + k) o
   one_cell None = refl
-  one_cell (Some feed) = get_or-take (high - low) (drop low feed.column.now) k None below ∙ get_or-drop low feed.column.now k None
+  one_cell (Some feed) = get_or-take (high - low) (drop low feed.property.now.column) k None below ∙ get_or-drop low feed.property.now.column k None
 
   span_cells : (λ lane. span_cell low high (slice_get feeds lane) k) ≡ cells_at feeds (low + k)
   span_cells = fun_ext (λ lane. one_cell (slice_get feeds lane))

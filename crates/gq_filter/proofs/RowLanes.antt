@@ -1,10 +1,9 @@
 -- The lanes of a condition in a row have the values of what it reads there.
 use mathlib.Core.Path.{fun_ext}
-use Rattle.std.proofs.Common.{◌≡◌, ◌≢◌, ◌++◌, ◌∷◌, zero, suc, is_some, ◌≤◌, ◌<◌, ◌∙◌, [], refl, ℕ, List, Option, Some, None, true, length, map, sym, ap, subst, arith, inl, inr}
+use Rattle.std.proofs.Common.{◌≡◌, ◌≢◌, ◌++◌, ◌∷◌, zero, suc, is_some, ◌≤◌, ◌<◌, ◌∙◌, [], refl, ℕ, List, Option, Some, None, true, length, sym, ap, subst, arith, inl, inr}
 use Rattle.std.specs.Prelude.{slice_get, IfSome}
-use Rattle.std.specs.Option.{option_map}
 use Rattle.std.proofs.lemmas.Bool.{cases_lt, false≢true, true≢false}
-use Rattle.std.proofs.lemmas.Option.{slice_get-map, slice_get_past, IfSome_then}
+use Rattle.std.proofs.lemmas.Option.{slice_get_past, IfSome_then}
 use Rattle.std.proofs.lemmas.List.{get_or_past}
 use Rattle.gq_base.specs.Plain.{Graph}
 use Rattle.gq_base.specs.Plain as plain
@@ -36,10 +35,9 @@ use Rattle.gq_filter.specs.LaneTests.{holds}
 use Rattle.gq_filter.specs.Cells.{IsInLane}
 use Rattle.gq_filter.specs.Deciding.{Decides}
 use Rattle.gq_filter.specs.Sources.{AreLanes, AreSources, property_of, value_of}
-use Rattle.gq_filter.specs.declared.feeds.Feed.{Feed}
+use Rattle.gq_filter.specs.declared.source.Feed.{Feed}
 use Rattle.gq_filter.specs.declared.lane_test.LaneTest.{LaneTest}
 use Rattle.gq_filter.specs.declared.source.ColumnId.{ColumnId}
-use Rattle.gq_filter.specs.declared.source.LaneSource.{LaneSource}
 use Rattle.gq_filter.specs.steps.RowCells.{AreFeedsIn, AreInside, AreOfNodes, DecidesRows, IsFeedIn, IsNodeFeedIn, IsOfNode, IsRelFeedIn, cell_in, cell_of, cells_of, lane_of, number_of, rel_lane}
 
 -- a node past the rows of its table has no properties
@@ -57,30 +55,30 @@ past_rows g table row name past =
 
 -- a feed's cell in a row is what its source's value is in a lane
 module _ (g : Graph) (y : Typed) (feed : Feed) (f : IsNodeFeedIn g y feed) where
-  at_row : (o : Option ℕ) → IsInLane feed.source.kind feed.source.dict.now (property_at (node_property g) (node_in (Some f.table) o) f.name) (cell_in feed.column.now o)
+  pub at_row : (o : Option ℕ) → IsInLane feed.property.now.kind feed.property.now.dict (property_at (node_property g) (node_in (Some f.table) o) f.name) (cell_in feed.property.now.column o)
   at_row None = refl
   at_row (Some row) = elim (cases_lt row (row_count g.nodes f.table)) [
     | inl low ↦ f.is.cells row low
     | inr past ↦
-        subst (λ v. IsInLane feed.source.kind feed.source.dict.now v (cell_at feed.column.now row)) (sym (past_rows g f.table row f.name past))
-        (get_or_past feed.column.now row None (omega (arith, past, f.is.rows)))
+        subst (λ v. IsInLane feed.property.now.kind feed.property.now.dict v (cell_at feed.property.now.column row)) (sym (past_rows g f.table row f.name past))
+        (get_or_past feed.property.now.column row None (omega (arith, past, f.is.rows)))
   ]
 
   -- the property of the variable's node in a row is in the column at the variable's row
-  pub node_text : (row : Assignment) → IsInLane feed.source.kind feed.source.dict.now (property_at (node_property g) ((as_read y row).nodes f.variable) f.name) (cell_in feed.column.now (slice_get row.nodes f.variable))
+  pub node_text : (row : Assignment) → IsInLane feed.property.now.kind feed.property.now.dict (property_at (node_property g) ((as_read y row).nodes f.variable) f.name) (cell_in feed.property.now.column (slice_get row.nodes f.variable))
   node_text row =
       let node : (as_read y row).nodes f.variable ≡ node_in (Some f.table) (slice_get row.nodes f.variable) = node_read y row f.variable ∙ ap (λ t. node_in t (slice_get row.nodes f.variable)) f.table_is in
-      subst (λ n. IsInLane feed.source.kind feed.source.dict.now (property_at (node_property g) n f.name) (cell_in feed.column.now (slice_get row.nodes f.variable))) (sym node) (at_row (slice_get row.nodes f.variable))
+      subst (λ n. IsInLane feed.property.now.kind feed.property.now.dict (property_at (node_property g) n f.name) (cell_in feed.property.now.column (slice_get row.nodes f.variable))) (sym node) (at_row (slice_get row.nodes f.variable))
 
-  node_lane : (row : Assignment) → IsInLane feed.source.kind feed.source.dict.now (value_of g (as_read y row) feed.source) (cell_of g row (Some feed))
+  node_lane : (row : Assignment) → IsInLane feed.property.now.kind feed.property.now.dict (value_of g (as_read y row) feed) (cell_of g row (Some feed))
   node_lane row =
       let at = as_read y row in
       let node : at.nodes f.variable ≡ node_in (Some f.table) (slice_get row.nodes f.variable) = node_read y row f.variable ∙ ap (λ t. node_in t (slice_get row.nodes f.variable)) f.table_is in
-      let value : value_of g at feed.source ≡ property_at (node_property g) (node_in (Some f.table) (slice_get row.nodes f.variable)) f.name =
-      ap (λ v. property_of g at v feed.source.name.now) f.is.variable_is ∙ ap (property_of g at (Node f.variable)) f.is.name_is ∙ ap (λ o. property_at (node_property g) o f.name) node in
-      let cell : cell_of g row (Some feed) ≡ cell_in feed.column.now (slice_get row.nodes f.variable) = ap (lane_of g row feed) f.is.variable_is in
-      subst (λ v. IsInLane feed.source.kind feed.source.dict.now v (cell_of g row (Some feed))) (sym value)
-      (subst (λ c. IsInLane feed.source.kind feed.source.dict.now (property_at (node_property g) (node_in (Some f.table) (slice_get row.nodes f.variable)) f.name) c) (sym cell) (at_row (slice_get row.nodes f.variable)))
+      let value : value_of g at feed ≡ property_at (node_property g) (node_in (Some f.table) (slice_get row.nodes f.variable)) f.name =
+      ap (λ v. property_of g at v feed.name.now) f.is.variable_is ∙ ap (property_of g at (Node f.variable)) f.is.name_is ∙ ap (λ o. property_at (node_property g) o f.name) node in
+      let cell : cell_of g row (Some feed) ≡ cell_in feed.property.now.column (slice_get row.nodes f.variable) = ap (lane_of g row feed) f.is.variable_is in
+      subst (λ v. IsInLane feed.property.now.kind feed.property.now.dict v (cell_of g row (Some feed))) (sym value)
+      (subst (λ c. IsInLane feed.property.now.kind feed.property.now.dict (property_at (node_property g) (node_in (Some f.table) (slice_get row.nodes f.variable)) f.name) c) (sym cell) (at_row (slice_get row.nodes f.variable)))
 
 -- a cell that is no text is in a lane what its value is
 coded : (k : Kind) (dict : List (List ℕ)) (c : Option Cell) → is_of_kind k c ≡ true → k ≢ kind.Str → IsInLane k dict (plain.cell_val c) (number_of (plain.cell_val c))
@@ -94,41 +92,31 @@ coded kind.Flag dict (Some (cell.Flag b)) of other = refl
 coded kind.Str dict (Some c) of other = absurd (other refl)
 
 module _ (g : Graph) (y : Typed) (feed : Feed) (f : IsRelFeedIn g y feed) where
-  pub at_number : (o : Option ℕ) → IsInLane feed.source.kind feed.source.dict.now (property_at (rel_property g) (rel_in (Some f.rel) o) f.name) (rel_lane g feed.source.column o)
+  pub at_number : (o : Option ℕ) → IsInLane feed.property.now.kind feed.property.now.dict (property_at (rel_property g) (rel_in (Some f.rel) o) f.name) (rel_lane g feed.column o)
   at_number None = refl
   at_number (Some number) =
       let c = rel_cell g f.rel.table f.is.property number in
-      let lane : rel_lane g feed.source.column (Some number) ≡ number_of (plain.cell_val c) = ap (λ (i : ColumnId). rel_lane g i (Some number)) f.is.column_is in
-      subst (IsInLane feed.source.kind feed.source.dict.now (rel_property g (record { table = f.rel.table; row = number }) f.name)) (sym lane)
-      (subst (λ v. IsInLane feed.source.kind feed.source.dict.now v (number_of (plain.cell_val c))) (f.is.values number) (coded feed.source.kind feed.source.dict.now c (f.is.kinds number) f.no_text))
+      let lane : rel_lane g feed.column (Some number) ≡ number_of (plain.cell_val c) = ap (λ (i : ColumnId). rel_lane g i (Some number)) f.is.column_is in
+      subst (IsInLane feed.property.now.kind feed.property.now.dict (rel_property g (record { table = f.rel.table; row = number }) f.name)) (sym lane)
+      (subst (λ v. IsInLane feed.property.now.kind feed.property.now.dict v (number_of (plain.cell_val c))) (f.is.values number) (coded feed.property.now.kind feed.property.now.dict c (f.is.kinds number) f.no_text))
 
-  rel_in_row : (row : Assignment) → IsInLane feed.source.kind feed.source.dict.now (value_of g (as_read y row) feed.source) (cell_of g row (Some feed))
+  rel_in_row : (row : Assignment) → IsInLane feed.property.now.kind feed.property.now.dict (value_of g (as_read y row) feed) (cell_of g row (Some feed))
   rel_in_row row =
       let at = as_read y row in
       let found : at.rels f.variable ≡ rel_in (Some f.rel) (slice_get row.rels f.variable) = rel_read y row f.variable ∙ ap (λ r. rel_in r (slice_get row.rels f.variable)) f.rel_is in
-      let value : value_of g at feed.source ≡ property_at (rel_property g) (rel_in (Some f.rel) (slice_get row.rels f.variable)) f.name =
-      ap (λ v. property_of g at v feed.source.name.now) f.is.variable_is ∙ ap (property_of g at (Rel f.variable)) f.is.name_is ∙ ap (λ o. property_at (rel_property g) o f.name) found in
-      let cell : cell_of g row (Some feed) ≡ rel_lane g feed.source.column (slice_get row.rels f.variable) = ap (lane_of g row feed) f.is.variable_is in
-      subst (λ v. IsInLane feed.source.kind feed.source.dict.now v (cell_of g row (Some feed))) (sym value)
-      (subst (λ c. IsInLane feed.source.kind feed.source.dict.now (property_at (rel_property g) (rel_in (Some f.rel) (slice_get row.rels f.variable)) f.name) c) (sym cell) (at_number (slice_get row.rels f.variable)))
+      let value : value_of g at feed ≡ property_at (rel_property g) (rel_in (Some f.rel) (slice_get row.rels f.variable)) f.name =
+      ap (λ v. property_of g at v feed.name.now) f.is.variable_is ∙ ap (property_of g at (Rel f.variable)) f.is.name_is ∙ ap (λ o. property_at (rel_property g) o f.name) found in
+      let cell : cell_of g row (Some feed) ≡ rel_lane g feed.column (slice_get row.rels f.variable) = ap (lane_of g row feed) f.is.variable_is in
+      subst (λ v. IsInLane feed.property.now.kind feed.property.now.dict v (cell_of g row (Some feed))) (sym value)
+      (subst (λ c. IsInLane feed.property.now.kind feed.property.now.dict (property_at (rel_property g) (rel_in (Some f.rel) (slice_get row.rels f.variable)) f.name) c) (sym cell) (at_number (slice_get row.rels f.variable)))
 
-in_lane : (g : Graph) (y : Typed) (feed : Feed) → IsFeedIn g y feed → (row : Assignment) → IsInLane feed.source.kind feed.source.dict.now (value_of g (as_read y row) feed.source) (cell_of g row (Some feed))
+in_lane : (g : Graph) (y : Typed) (feed : Feed) → IsFeedIn g y feed → (row : Assignment) → IsInLane feed.property.now.kind feed.property.now.dict (value_of g (as_read y row) feed) (cell_of g row (Some feed))
 in_lane g y feed (inl f) row = node_lane g y feed f row
 in_lane g y feed (inr f) row = rel_in_row g y feed f row
 
--- the source of a lane is that of a feed
-source_at : (feeds : List Feed) (lane : ℕ) (s : LaneSource) → slice_get (map (λ (f : Feed). f.source) feeds) lane ≡ Some s → (f : Feed) × (slice_get feeds lane ≡ Some f) × (f.source ≡ s)
-source_at feeds lane s is = found (slice_get feeds lane) refl (sym (slice_get-map (λ (f : Feed). f.source) feeds lane) ∙ is)
-  where
-    found : (o : Option Feed) → slice_get feeds lane ≡ o → option_map (λ (f : Feed). f.source) o ≡ Some s → (f : Feed) × (slice_get feeds lane ≡ Some f) × (f.source ≡ s)
-    found None at h = cc h
-    found (Some f) at h = (f, at, cc h)
-
-pub lanes_of_feeds : (g : Graph) (y : Typed) (feeds : List Feed) → AreFeedsIn g y feeds → (row : Assignment) → AreLanes g (as_read y row) (map (λ (f : Feed). f.source) feeds) (cells_of g feeds row)
-lanes_of_feeds g y feeds are row = λ lane s is.
-    let (f, at, same) = source_at feeds lane s is in
-    subst (λ (t : LaneSource). IsInLane t.kind t.dict.now (value_of g (as_read y row) t) (cells_of g feeds row lane)) same
-    (subst (λ o. IsInLane f.source.kind f.source.dict.now (value_of g (as_read y row) f.source) (cell_of g row o)) (sym at) (in_lane g y f (are lane f at) row))
+pub lanes_of_feeds : (g : Graph) (y : Typed) (feeds : List Feed) → AreFeedsIn g y feeds → (row : Assignment) → AreLanes g (as_read y row) feeds (cells_of g feeds row)
+lanes_of_feeds g y feeds are row = λ lane feed is.
+    subst (λ o. IsInLane feed.property.now.kind feed.property.now.dict (value_of g (as_read y row) feed) (cell_of g row o)) (sym is) (in_lane g y feed (are lane feed is) row)
 
 -- columns of one table and one property have one dictionary
 dicts_of_one : (cells : List (Option Cell)) (d e : List (List ℕ)) → IsDictOf cells d → IsDictOf cells e → d ≡ e
@@ -137,7 +125,7 @@ dicts_of_one cells d e a b = one_dict d e a.ascending b.ascending (λ t has. (b.
 dicts_same : (cells : ℕ → ℕ → List (Option Cell)) (d e : List (List ℕ)) (t u p q : ℕ) → t ≡ u → p ≡ q → IsDictOf (cells t p) d → IsDictOf (cells u q) e → d ≡ e
 dicts_same cells d e t u p q tables properties a b = dicts_of_one (cells u q) d e (subst (λ i. IsDictOf (cells u i) d) properties (subst (λ k. IsDictOf (cells k p) d) tables a)) b
 
-one_column : (g : Graph) (y : Typed) (f h : Feed) → IsFeedIn g y f → IsFeedIn g y h → f.source.column ≡ h.source.column → f.source.dict.now ≡ h.source.dict.now
+one_column : (g : Graph) (y : Typed) (f h : Feed) → IsFeedIn g y f → IsFeedIn g y h → f.column ≡ h.column → f.property.now.dict ≡ h.property.now.dict
 one_column g y f h (inl a) (inl b) same =
     let column = sym a.is.column_is ∙ same ∙ b.is.column_is in
     dicts_same (node_cells g) _ _ _ _ _ _ (ap (λ (c : ColumnId). c.table) column) (ap (λ (c : ColumnId). c.property) column) a.is.dict_is b.is.dict_is
@@ -147,21 +135,15 @@ one_column g y f h (inr a) (inr b) same =
     let column = sym a.is.column_is ∙ same ∙ b.is.column_is in
     dicts_same (rel_cells g) _ _ _ _ _ _ (ap (λ (c : ColumnId). c.table) column) (ap (λ (c : ColumnId). c.property) column) a.is.dict_is b.is.dict_is
 
-pub sources_of_feeds : (g : Graph) (y : Typed) (feeds : List Feed) → AreFeedsIn g y feeds → AreSources (map (λ (f : Feed). f.source) feeds)
+pub sources_of_feeds : (g : Graph) (y : Typed) (feeds : List Feed) → AreFeedsIn g y feeds → AreSources feeds
 sources_of_feeds g y feeds are = record {
-  ascending = λ lane s is.
-      let (f, at, same) = source_at feeds lane s is in
-      rw (← same) (elim (are lane f at) [ inl a ↦ a.is.dict_is.ascending | inr b ↦ b.is.dict_is.ascending ]);
-  one_dict = λ i j s t at_i at_j one.
-      let (f, here, f_is) = source_at feeds i s at_i in
-      let (h, there, h_is) = source_at feeds j t at_j in
-      let column : f.source.column ≡ h.source.column = ap (λ (s : LaneSource). s.column) f_is ∙ one ∙ sym (ap (λ (s : LaneSource). s.column) h_is) in
-      sym (ap (λ (s : LaneSource). s.dict.now) f_is) ∙ one_column g y f h (are i f here) (are j h there) column ∙ ap (λ (s : LaneSource). s.dict.now) h_is;
+  ascending = λ lane feed is. elim (are lane feed is) [ inl a ↦ a.is.dict_is.ascending | inr b ↦ b.is.dict_is.ascending ];
+  one_dict = λ i j f h at_f at_h one. one_column g y f h (are i f at_f) (are j h at_h) one;
 }
 
 -- the columns of relationships are there
-inside_of : (g : Graph) (y : Typed) (feed : Feed) → IsFeedIn g y feed → (x : ℕ) → feed.source.variable ≡ Rel x →
-    (feed.source.column.table < length g.catalog.rels) × (feed.source.column.property < length (rel_fields g feed.source.column.table))
+inside_of : (g : Graph) (y : Typed) (feed : Feed) → IsFeedIn g y feed → (x : ℕ) → feed.variable ≡ Rel x →
+    (feed.column.table < length g.catalog.rels) × (feed.column.property < length (rel_fields g feed.column.table))
 inside_of g y feed (inl a) x is = cc (a.is.variable_is, is)
 inside_of g y feed (inr b) x is = subst (λ (c : ColumnId). (c.table < length g.catalog.rels) × (c.property < length (rel_fields g c.table))) (sym b.is.column_is) (b.within, b.is.inside)
 
@@ -170,9 +152,9 @@ all_inside g y feeds are = λ lane feed x at is. inside_of g y feed (are lane fe
 
 -- a test that decides a condition by the feeds' lanes decides it row by row
 pub rows_decided : (g : Graph) (y : Typed) (condition : NamedExpr) (feeds : List Feed) (found : Option LaneTest) → AreFeedsIn g y feeds →
-    IfSome found (Decides true (map (λ (f : Feed). f.source) feeds) condition.expr) → DecidesRows g y condition feeds found
+    IfSome found (Decides true feeds condition.expr) → DecidesRows g y condition feeds found
 rows_decided g y condition feeds found are decides =
-    IfSome_then found decides (λ t decide row. kept_by (map (λ (f : Feed). f.source) feeds) condition t g (as_read y row) (cells_of g feeds row) decide (lanes_of_feeds g y feeds are row))
+    IfSome_then found decides (λ t decide row. kept_by feeds condition t g (as_read y row) (cells_of g feeds row) decide (lanes_of_feeds g y feeds are row))
 
 -- what lanes of node variables decide hangs on their rows alone
 pub rows_alone : (g : Graph) (y : Typed) (condition : NamedExpr) (feeds : List Feed) (test : LaneTest) → DecidesRows g y condition feeds (Some test) → AreOfNodes feeds → (old new : Assignment) → old.nodes ≡ new.nodes →
@@ -181,12 +163,12 @@ rows_alone g y condition feeds test decides nodes old new same =
     sym (decides old) ∙ ap (λ cells. holds cells test) (fun_ext (λ lane. at lane (slice_get feeds lane) refl)) ∙ decides new
   where
     lane_same : (feed : Feed) (v : Variable) → IsOfNode v → lane_of g old feed v ≡ lane_of g new feed v
-    lane_same feed (Node v) u = ap (λ rows. cell_in feed.column.now (slice_get rows v)) same
+    lane_same feed (Node v) u = ap (λ rows. cell_in feed.property.now.column (slice_get rows v)) same
     lane_same feed (Rel x) u = absurd u
 
     at : (lane : ℕ) (o : Option Feed) → slice_get feeds lane ≡ o → cell_of g old (slice_get feeds lane) ≡ cell_of g new (slice_get feeds lane)
     at lane None h = rw h refl
-    at lane (Some feed) h = rw h (lane_same feed feed.source.variable (nodes lane feed h))
+    at lane (Some feed) h = rw h (lane_same feed feed.variable (nodes lane feed h))
 
 pub rows_only : (g : Graph) (y : Typed) (condition : NamedExpr) (feeds : List Feed) (found : Option LaneTest) → is_some found ≡ true → DecidesRows g y condition feeds found → AreOfNodes feeds → (old new : Assignment) → old.nodes ≡ new.nodes →
     passes g (as_read y old) condition ≡ passes g (as_read y new) condition

@@ -14,7 +14,7 @@ use Rattle.gq_plan.specs.declared.bound.NamedExpr.{NamedExpr}
 use Rattle.gq_plan.specs.declared.typed.Typed.{Typed}
 use Rattle.gq_filter.specs.LaneTests.{holds}
 use Rattle.gq_filter.specs.Rows.{with_row}
-use Rattle.gq_filter.specs.declared.feeds.Feed.{Feed}
+use Rattle.gq_filter.specs.declared.source.Feed.{Feed}
 use Rattle.gq_filter.specs.declared.lane_test.LaneTest.{LaneTest}
 use Rattle.gq_filter.specs.steps.RowCells.{DecidesRows, cell_in, cell_of, cells_of, lane_of}
 use Rattle.gq_filter.specs.RowLists.{cells_at, feed_cell}
@@ -29,8 +29,8 @@ put_in nodes variable row inside =
 module _ (g : Graph) (feeds : List Feed) (variable low high : ℕ) (spanned : AreSpanned variable high feeds) (row : Assignment) (inside : variable < length row.nodes) (k : ℕ) (below : k < high - low) where
   one_cell : (feed : Feed) → IsSpanned variable high feed → span_cell low high (Some feed) k ≡ cell_of g (with_row variable (low + k) row) (Some feed)
   one_cell feed is =
-      get_or-take (high - low) (drop low feed.column.now) k None below ∙ get_or-drop low feed.column.now k None
-      ∙ sym (ap (lane_of g (with_row variable (low + k) row) feed) is.of_node ∙ ap (cell_in feed.column.now) (put_in row.nodes variable (low + k) inside))
+      get_or-take (high - low) (drop low feed.property.now.column) k None below ∙ get_or-drop low feed.property.now.column k None
+      ∙ sym (ap (lane_of g (with_row variable (low + k) row) feed) is.of_node ∙ ap (cell_in feed.property.now.column) (put_in row.nodes variable (low + k) inside))
 
   cell_there : (lane : ℕ) (o : Option Feed) → slice_get feeds lane ≡ o → span_cell low high o k ≡ cell_of g (with_row variable (low + k) row) o
   cell_there lane None at = refl
@@ -55,7 +55,7 @@ span_kept g y condition feeds test decides variable low high spanned row inside 
 -- the same of rows in a list
 module _ (g : Graph) (feeds : List Feed) (variable : ℕ) (spanned : AreSpanned variable 0 feeds) (row : Assignment) (inside : variable < length row.nodes) (r : ℕ) where
   listed_cell : (feed : Feed) → IsSpanned variable 0 feed → feed_cell r (Some feed) ≡ cell_of g (with_row variable r row) (Some feed)
-  listed_cell feed is = sym (ap (lane_of g (with_row variable r row) feed) is.of_node ∙ ap (cell_in feed.column.now) (put_in row.nodes variable r inside))
+  listed_cell feed is = sym (ap (lane_of g (with_row variable r row) feed) is.of_node ∙ ap (cell_in feed.property.now.column) (put_in row.nodes variable r inside))
 
   listed_at : (lane : ℕ) (o : Option Feed) → slice_get feeds lane ≡ o → cells_at feeds r lane ≡ cells_of g feeds (with_row variable r row) lane
   listed_at lane None at = rw at refl

@@ -1,8 +1,6 @@
 -- What lanes have in a row, in which a node variable takes another row.
-use Rattle.std.proofs.Common.{◌≡◌, ◌≢◌, ◌∙◌, zero, suc, refl, sym, ap, ℕ, ℤ, List, [], ◌∷◌, Bool, Option, Some, None, not}
+use Rattle.std.proofs.Common.{◌≡◌, ◌≢◌, ◌∙◌, zero, suc, refl, sym, ap, ℕ, ℤ, List, [], ◌∷◌, Bool, Option, Some, None}
 use Rattle.std.specs.Prelude.{◌&&◌, slice_get, slice_index, slice_set}
-use Rattle.std.specs.Ordering.{int_eq}
-use Rattle.std.proofs.lemmas.Cmp.{int_eq_equiv}
 use Rattle.gq_base.specs.Plain.{Graph}
 use Rattle.gq_bits.specs.Places.{is_marked}
 use Rattle.gq_column.specs.Cells.{cell_at}
@@ -15,7 +13,7 @@ use Rattle.gq_plan.specs.declared.variable.Variable.TheVariants.{Node, Rel}
 use Rattle.gq_filter.specs.LaneTests.{holds, pass}
 use Rattle.gq_filter.specs.LaneTests as tests
 use Rattle.gq_filter.specs.Rows.{with_row}
-use Rattle.gq_filter.specs.declared.feeds.Feed.{Feed}
+use Rattle.gq_filter.specs.declared.source.Feed.{Feed}
 use Rattle.gq_filter.specs.declared.lane_test.LaneTest.{LaneTest}
 use Rattle.gq_filter.specs.declared.standing_row.StandingRow.{StandingRow}
 use Rattle.gq_filter.specs.steps.RowCells.{DecidesRows, cell_in, cell_of, cells_of, lane_of}
@@ -38,22 +36,22 @@ module _ (s : StandingRow) (lane : ℕ) where
 
   module _ (feed : Feed) (there : Some feed ≡ slice_get s.feeds.now lane) where
     -- of the variable
-    pub moves : (node : ℕ) → feed.source.variable ≡ Node node → node ≡ s.variable → (row : ℕ) → cell_at feed.column.now row ≡ standing_cells s row lane
+    pub moves : (node : ℕ) → feed.variable ≡ Node node → node ≡ s.variable → (row : ℕ) → cell_at feed.property.now.column row ≡ standing_cells s row lane
     moves node is same row =
         let taken : Assignment = with_row s.variable row s.row.now in
-        sym (ap (lane_of s.graph.now taken feed) (is ∙ ap Node same) ∙ ap (cell_in feed.column.now) (put_in s.row.now.nodes s.variable row s.there))
+        sym (ap (lane_of s.graph.now taken feed) (is ∙ ap Node same) ∙ ap (cell_in feed.property.now.column) (put_in s.row.now.nodes s.variable row s.there))
         ∙ ap (cell_of s.graph.now taken) there
 
     -- of another one
-    pub stands : (node : ℕ) → feed.source.variable ≡ Node node → node ≢ s.variable → (row : ℕ) → cells_of s.graph.now s.feeds.now s.row.now lane ≡ standing_cells s row lane
+    pub stands : (node : ℕ) → feed.variable ≡ Node node → node ≢ s.variable → (row : ℕ) → cells_of s.graph.now s.feeds.now s.row.now lane ≡ standing_cells s row lane
     stands node is other row =
         let taken : Assignment = with_row s.variable row s.row.now in
         sym (ap (cell_of s.graph.now s.row.now) there) ∙ ap (lane_of s.graph.now s.row.now feed) is
-        ∙ ap (cell_in feed.column.now) (sym (get_other s.row.now.nodes s.variable node row other))
+        ∙ ap (cell_in feed.property.now.column) (sym (get_other s.row.now.nodes s.variable node row other))
         ∙ sym (ap (lane_of s.graph.now taken feed) is) ∙ ap (cell_of s.graph.now taken) there
 
     -- of a relationship
-    pub stands_rel : (x : ℕ) → feed.source.variable ≡ Rel x → (row : ℕ) → cells_of s.graph.now s.feeds.now s.row.now lane ≡ standing_cells s row lane
+    pub stands_rel : (x : ℕ) → feed.variable ≡ Rel x → (row : ℕ) → cells_of s.graph.now s.feeds.now s.row.now lane ≡ standing_cells s row lane
     stands_rel x is row =
         let taken : Assignment = with_row s.variable row s.row.now in
         sym (ap (cell_of s.graph.now s.row.now) there) ∙ ap (lane_of s.graph.now s.row.now feed) is

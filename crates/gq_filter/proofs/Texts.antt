@@ -24,7 +24,7 @@ use Rattle.gq_filter.proofs.Deciding.{passes_is}
 use Rattle.gq_filter.proofs.RowLanes.{node_text}
 use Rattle.gq_filter.specs.Cells.{IsInLane}
 use Rattle.gq_filter.specs.Deciding.{wanted}
-use Rattle.gq_filter.specs.declared.feeds.Feed.{Feed}
+use Rattle.gq_filter.specs.declared.source.Feed.{Feed}
 use Rattle.gq_filter.specs.declared.text_test.Part.{Part}
 use Rattle.gq_filter.specs.declared.text_test.Part.TheVariants.{End, Inner}
 use Rattle.gq_filter.specs.declared.text_test.PartTest.{PartTest}
@@ -72,13 +72,13 @@ asked g row v name part =
     by (End p) = ap (λ o. and_then (and_then o (λ b. Ok (of_truth (text_vals ask.Ends value b)))) (λ b. Ok b)) (meaning_Literal g row (spelled.Str p.now))
     by (Inner p) = ap (λ o. and_then (and_then o (λ b. Ok (of_truth (text_vals ask.Contains value b)))) (λ b. Ok b)) (meaning_Literal g row (spelled.Str p))
 
-pub text_decides : (g : Graph) (y : Typed) (condition : NamedExpr) (feed : Feed) (part : Part) (f : IsNodeFeedIn g y feed) → condition.expr ≡ Test (NodeProperty f.variable f.name) (tester_of part ∷ []) → feed.source.kind ≡ kind.Str →
-    (row : Assignment) → text_passes (record { variable = f.variable; column = feed.column; dict = feed.source.dict; part = part }) row ≡ passes g (as_read y row) condition
+pub text_decides : (g : Graph) (y : Typed) (condition : NamedExpr) (feed : Feed) (part : Part) (f : IsNodeFeedIn g y feed) → condition.expr ≡ Test (NodeProperty f.variable f.name) (tester_of part ∷ []) → feed.property.now.kind ≡ kind.Str →
+    (row : Assignment) → text_passes (record { variable = f.variable; property = feed.property; part = part }) row ≡ passes g (as_read y row) condition
 text_decides g y condition feed part f expr of row =
     let at = as_read y row in
     let value = property_at (node_property g) (at.nodes f.variable) f.name in
-    let cell = cell_in feed.column.now (slice_get row.nodes f.variable) in
-    lane_has feed.source.dict.now part value cell (subst (λ k. IsInLane k feed.source.dict.now value cell) of (node_text g y feed f row))
+    let cell = cell_in feed.property.now.column (slice_get row.nodes f.variable) in
+    lane_has feed.property.now.dict part value cell (subst (λ k. IsInLane k feed.property.now.dict value cell) of (node_text g y feed f row))
     ∙ passes_is g at condition (part_vals part value) (ap (meaning g at) expr ∙ asked g at f.variable f.name part)
 
 -- what a test of a text decides hangs on the rows alone
@@ -87,4 +87,4 @@ pub text_alone : (g : Graph) (y : Typed) (condition : NamedExpr) (test : Option 
 text_alone g y condition None some decides old new same = absurd (false≢true some)
 text_alone g y condition (Some t) some decides old new same =
     sym (decides old)
-    ∙ ap (λ rows. coded_passes t.dict.now t.part (code_in (length t.dict.now) (cell_in t.column.now (slice_get rows t.variable)))) same ∙ decides new
+    ∙ ap (λ rows. coded_passes t.property.now.dict t.part (code_in (length t.property.now.dict) (cell_in t.property.now.column (slice_get rows t.variable)))) same ∙ decides new

@@ -1,5 +1,5 @@
 -- Properties of two nodes that a condition asks to be equal.
-use Rattle.std.specs.Prelude.{ℕ, ℤ, ◌≡◌, List, Option, Some, None, slice_get}
+use Rattle.std.specs.Prelude.{ℕ, ℤ, ◌≡◌, Option, Some, None, slice_get}
 use Rattle.gq_column.specs.Cells.{cell_at}
 use Rattle.gq_plan.specs.declared.assignment.Assignment.{Assignment}
 use Rattle.gq_filter.specs.declared.equalities.EqualColumns.{EqualColumns}

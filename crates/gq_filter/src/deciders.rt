@@ -4,8 +4,8 @@ ghost use Rattle.gq_filter.specs.steps.Evaluating.{Evaluates, is_true};
 ghost use Rattle.gq_filter.specs.steps.RowCells.{AreFeedsIn, DecidesRows};
 
 use crate::conditions::compile;
-use crate::feeds::Feed;
 use crate::lane_test::LaneTest;
+use crate::source::Feed;
 use crate::text_test::PartTest;
 use gq_base::{Memory, Value};
 use gq_eval::Evaluator;
@@ -28,11 +28,7 @@ pub(crate) fn test_of(
     if feeds.len() > u32::MAX as usize {
         return Ok(None);
     }
-    let mut sources = Vec::with_capacity(alloc, feeds.len())?;
-    for feed in feeds {
-        sources.push(feed.source)?;
-    }
-    let test = compile(alloc, condition.expr.get(), sources.as_slice())?;
+    let test = compile(alloc, condition.expr.get(), feeds)?;
     Ok(test)
 }
 

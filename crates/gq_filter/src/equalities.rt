@@ -8,9 +8,9 @@ ghost use Rattle.gq_lanes.specs.Tests.{compares};
 ghost use Rattle.gq_filter.specs.steps.RowCells.{cells_of};
 ghost use Rattle.gq_plan.specs.declared.assignment.Assignment.{Assignment};
 
-use crate::feeds::Feed;
 use crate::lane_test::LaneTest;
 use crate::row_cells::cell_at;
+use crate::source::Feed;
 use gq_column::Column;
 use gq_lanes::LaneOp;
 use gq_plan::{Assignment, Variable};
@@ -127,10 +127,10 @@ fn node_column<'g>(feeds: &[Feed<'g>], lane: u32) -> Option<NodeColumn<'g>>
         → cells_of g feeds.now row lane ≡ node_cell c row) }
 {
     let feed = feeds.get(lane as usize)?;
-    match feed.source.variable {
+    match feed.variable {
         Variable::Node(node) => Some(NodeColumn {
             node,
-            column: feed.column,
+            column: feed.property.column(),
         }),
         Variable::Rel(_) => None,
     }

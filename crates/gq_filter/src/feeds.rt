@@ -4,18 +4,10 @@ ghost use Rattle.gq_base.specs.Catalogs.{find_field};
 ghost use Rattle.gq_store.specs.Cells.{node_fields, rel_fields};
 ghost use Rattle.gq_filter.specs.Feeds.{IsNodeFeed, IsRelFeed};
 
-use crate::source::{ColumnId, LaneSource};
+use crate::source::{ColumnId, Feed};
 use gq_base::{Text, find_field};
-use gq_column::Column;
 use gq_plan::Variable;
 use gq_store::Graph;
-
-/// A source of a lane, and the column that has its cells.
-#[derive(Clone, Copy)]
-pub struct Feed<'g> {
-    pub source: LaneSource<'g>,
-    pub column: &'g Column,
-}
 
 /// A property of a node variable of a node table, where the table has it: its cells stand by row.
 pub fn node_feed<'g>(
@@ -31,21 +23,19 @@ pub fn node_feed<'g>(
 {
     let fields = graph.catalog().node_table(table).fields.as_slice();
     let place = find_field(fields, name)?;
-    let kind = fields[place].kind;
-    let property = place as u32;
+    let at = place as u32;
+    let property = graph.node_property(table, at);
+    // For the contract: the texts of its cells are in its dictionary, and their codes in its column.
+    let _ = (property.dict().len(), property.column().len());
     Some(Feed {
-        source: LaneSource {
-            variable: Variable::Node(variable),
-            name,
-            kind,
-            dict: graph.node_dict(table, property),
-            column: ColumnId {
-                of_rels: false,
-                table,
-                property,
-            },
+        variable: Variable::Node(variable),
+        name,
+        property,
+        column: ColumnId {
+            of_rels: false,
+            table,
+            property: at,
         },
-        column: graph.node_column(table, property),
     })
 }
 
@@ -58,20 +48,18 @@ pub fn rel_feed<'g>(graph: &'g Graph, variable: u32, rel: u32, name: &'g Text) -
 {
     let fields = graph.catalog().rel_table(rel).fields.as_slice();
     let place = find_field(fields, name)?;
-    let kind = fields[place].kind;
-    let property = place as u32;
+    let at = place as u32;
+    let property = graph.rel_property(rel, at);
+    // For the contract: the texts of its cells are in its dictionary, and their codes in its column.
+    let _ = (property.dict().len(), property.column().len());
     Some(Feed {
-        source: LaneSource {
-            variable: Variable::Rel(variable),
-            name,
-            kind,
-            dict: graph.rel_dict(rel, property),
-            column: ColumnId {
-                of_rels: true,
-                table: rel,
-                property,
-            },
+        variable: Variable::Rel(variable),
+        name,
+        property,
+        column: ColumnId {
+            of_rels: true,
+            table: rel,
+            property: at,
         },
-        column: graph.rel_column(rel, property),
     })
 }

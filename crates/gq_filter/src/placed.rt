@@ -1,12 +1,12 @@
 //! Conditions on a relationship, decided by the place at which it stands.
-ghost use Rattle.std.specs.Prelude.{◌≡◌, IfSome, IsTrue, false};
-ghost use Rattle.gq_filter.specs.Placed.{Refuses};
+ghost use Rattle.std.specs.Prelude.{◌≡◌, ◌<◌, IfSome, IsTrue, false, true};
+ghost use Rattle.gq_filter.specs.Placed.{Passes, Refuses};
 ghost use Rattle.gq_filter.specs.steps.Placing.{ArePlaced, IsPlaced, IsTestOf};
 
 use crate::cells::holds_at;
-use crate::feeds::Feed;
 use crate::lane_test::LaneTest;
 use crate::row_lists::ColumnCells;
+use crate::source::Feed;
 use gq_plan::Variable;
 
 /// A test of lanes of one relationship variable. Its cells stand by place, so that it is asked
@@ -22,7 +22,8 @@ pub struct PlacedTest<'r> {
 impl PlacedTest<'_> {
     /// Whether the relationship at a place may pass; if not, it is refused.
     pub fn may_pass(&self, place: u32) -> bool
-        ensures { result ≡ false → Refuses self.now place }
+        ensures refused { result ≡ false → Refuses self.now place }
+        ensures passes { result ≡ true → place < self.now.places → Passes self.now place }
     {
         if place >= self.places {
             return true;
@@ -32,6 +33,13 @@ impl PlacedTest<'_> {
             row: place,
         };
         holds_at(self.test, &cells)
+    }
+
+    /// Whether the relationship at a place, if it may pass, passes.
+    pub fn tells(&self, place: u32) -> bool
+        ensures { result ≡ true → place < self.now.places }
+    {
+        place < self.places
     }
 }
 
@@ -44,7 +52,7 @@ pub(crate) fn placed_test<'r>(
     ensures { IfSome result (IsTestOf test.now feeds.now rel) }
 {
     let first = feeds.first()?;
-    let places = first.column.len();
+    let places = first.property.column().len();
     if !are_placed(feeds, rel, places) {
         return None;
     }
@@ -70,8 +78,8 @@ fn are_placed(feeds: &[Feed<'_>], rel: u32, places: u32) -> bool
 fn is_placed(feed: &Feed<'_>, rel: u32, places: u32) -> bool
     ensures { IsTrue result → IsPlaced rel places feed.now }
 {
-    match feed.source.variable {
+    match feed.variable {
         Variable::Node(_) => false,
-        Variable::Rel(own) => own == rel && places <= feed.column.len(),
+        Variable::Rel(own) => own == rel && places <= feed.property.column().len(),
     }
 }

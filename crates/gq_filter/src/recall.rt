@@ -8,10 +8,10 @@ ghost use Rattle.gq_filter.specs.RowLists.{cells_at};
 ghost use Rattle.gq_filter.specs.steps.SpanLanes.{HaveRows};
 ghost use Rattle.gq_row_sets.specs.Rows.{next_end};
 
-use crate::feeds::Feed;
 use crate::kernels::keep_lanes;
 use crate::lane_test::LaneTest;
 use crate::row_lists::keep_list;
+use crate::source::Feed;
 use crate::span_lanes::SpanLanes;
 use gq_base::Memory;
 use gq_bits::{Marks, VECTOR};
@@ -122,7 +122,7 @@ fn have_rows(feeds: &[Feed<'_>], rows: u32) -> bool
     ensures { IsTrue result → HaveRows rows feeds.now }
 {
     for feed in feeds {
-        if feed.column.len() < rows {
+        if feed.property.column().len() < rows {
             return false;
         }
     }

@@ -7,8 +7,7 @@ ghost use Rattle.gq_filter.specs.steps.RowCells.{AreInside, number_of};
 ghost use Rattle.gq_store.specs.Cells.{rel_cell, rel_fields};
 
 use crate::cells::Cells;
-use crate::feeds::Feed;
-use crate::source::ColumnId;
+use crate::source::{ColumnId, Feed};
 use gq_base::Value;
 use gq_column::Column;
 use gq_plan::{Assignment, Variable};
@@ -31,14 +30,14 @@ impl Cells for RowCells<'_> {
 
     fn cell(&self, lane: u32) -> Option<i64> {
         let feed = self.feeds.get(lane as usize)?;
-        match feed.source.variable {
+        match feed.variable {
             Variable::Node(variable) => {
                 let row = *self.row.nodes.get(variable as usize)?;
-                cell_at(feed.column, row)
+                cell_at(feed.property.column(), row)
             }
             Variable::Rel(variable) => {
                 let number = *self.row.rels.get(variable as usize)?;
-                rel_lane(self.graph, feed.source.column, number)
+                rel_lane(self.graph, feed.column, number)
             }
         }
     }
@@ -56,9 +55,9 @@ pub(crate) fn cell_at(column: &Column, row: u32) -> Option<i64>
     }
 }
 
-// The cell of a property of the relationship with a load number, where it is an integer or a
-// boolean.
-fn rel_lane(graph: &Graph, column: ColumnId, number: u32) -> Option<i64>
+/// The cell of a property of the relationship with a load number, where it is an integer or a
+/// boolean.
+pub(crate) fn rel_lane(graph: &Graph, column: ColumnId, number: u32) -> Option<i64>
     requires table { column.table < length graph.now.catalog.rels }
     requires property { column.property < length (rel_fields graph.now column.table) }
     ensures { result ≡ number_of

@@ -1,9 +1,9 @@
 //! The columns of the properties that a condition reads.
-ghost use Rattle.std.specs.Prelude.{IfOk, length};
+ghost use Rattle.std.specs.Prelude.{IfOk};
 ghost use Rattle.gq_filter.specs.steps.RowCells.{AreFeedsIn};
-ghost use Rattle.gq_plan.specs.Soundness.{IsSound};
 
-use crate::feeds::{Feed, node_feed, rel_feed};
+use crate::feeds::{node_feed, rel_feed};
+use crate::source::Feed;
 use gq_base::{Kind, Memory, Text};
 use gq_plan::{BoundExpr, Read, Typed, Variable};
 use gq_store::Graph;
@@ -15,8 +15,7 @@ pub(crate) fn add_feeds<'g>(
     typed: &Typed,
     expr: &'g BoundExpr,
 ) -> Result<(), Memory>
-    requires sound { IsSound graph.now.catalog typed.now }
-    requires feeds { AreFeedsIn graph.now typed.now feeds.old.items }
+    requires { AreFeedsIn graph.now typed.now feeds.old.items }
     ensures { IfOk result (λ _. AreFeedsIn graph.now typed.now feeds.new.items) }
 {
     'reads: for read in expr.reads() {
@@ -31,8 +30,7 @@ fn add_feed<'g>(
     typed: &Typed,
     read: &'g Read,
 ) -> Result<(), Memory>
-    requires sound { IsSound graph.now.catalog typed.now }
-    requires feeds { AreFeedsIn graph.now typed.now feeds.old.items }
+    requires { AreFeedsIn graph.now typed.now feeds.old.items }
     ensures { IfOk result (λ _. AreFeedsIn graph.now typed.now feeds.new.items) }
 {
     match (read.variable, &read.property) {
@@ -50,19 +48,23 @@ fn add_node<'g>(
     variable: u32,
     name: &'g Text,
 ) -> Result<(), Memory>
-    requires sound { IsSound graph.now.catalog typed.now }
-    requires feeds { AreFeedsIn graph.now typed.now feeds.old.items }
+    requires { AreFeedsIn graph.now typed.now feeds.old.items }
     ensures { IfOk result (λ _. AreFeedsIn graph.now typed.now feeds.new.items) }
 {
     match typed.nodes.get(variable as usize) {
         None => Ok(()),
-        Some(table) => match node_feed(graph, variable, *table, name) {
-            None => Ok(()),
-            Some(feed) => {
-                feeds.push(feed)?;
-                Ok(())
+        Some(table) => {
+            if *table >= graph.catalog().node_tables() {
+                return Ok(());
             }
-        },
+            match node_feed(graph, variable, *table, name) {
+                None => Ok(()),
+                Some(feed) => {
+                    feeds.push(feed)?;
+                    Ok(())
+                }
+            }
+        }
     }
 }
 
@@ -75,21 +77,25 @@ fn add_rel<'g>(
     variable: u32,
     name: &'g Text,
 ) -> Result<(), Memory>
-    requires sound { IsSound graph.now.catalog typed.now }
-    requires feeds { AreFeedsIn graph.now typed.now feeds.old.items }
+    requires { AreFeedsIn graph.now typed.now feeds.old.items }
     ensures { IfOk result (λ _. AreFeedsIn graph.now typed.now feeds.new.items) }
 {
     match typed.rels.get(variable as usize) {
         None => Ok(()),
-        Some(rel) => match rel_feed(graph, variable, rel.table, name) {
-            None => Ok(()),
-            Some(feed) => match feed.source.kind {
-                Kind::Str => Ok(()),
-                Kind::Int | Kind::Flag => {
-                    feeds.push(feed)?;
-                    Ok(())
-                }
-            },
-        },
+        Some(rel) => {
+            if rel.table >= graph.catalog().rel_tables() {
+                return Ok(());
+            }
+            match rel_feed(graph, variable, rel.table, name) {
+                None => Ok(()),
+                Some(feed) => match feed.property.kind() {
+                    Kind::Str => Ok(()),
+                    Kind::Int | Kind::Flag => {
+                        feeds.push(feed)?;
+                        Ok(())
+                    }
+                },
+            }
+        }
     }
 }

@@ -8,9 +8,9 @@ ghost use Rattle.gq_filter.specs.RowLists.{cells_at};
 ghost use Rattle.gq_lanes.specs.Tests.{compares};
 
 use crate::cells::{Cells, compared, holds_at};
-use crate::feeds::Feed;
 use crate::lane_test::LaneTest;
 use crate::row_cells::cell_at;
+use crate::source::Feed;
 use crate::span_lanes::feed_at;
 use gq_bits::{Marks, VECTOR};
 use gq_column::Column;
@@ -30,7 +30,7 @@ impl Cells for ColumnCells<'_> {
 
     fn cell(&self, lane: u32) -> Option<i64> {
         let feed = feed_at(self.feeds, lane)?;
-        cell_at(feed.column, self.row)
+        cell_at(feed.property.column(), self.row)
     }
 }
 
@@ -47,7 +47,7 @@ pub(crate) fn keep_list(test: &LaneTest, feeds: &[Feed<'_>], rows: &[u32], marks
     match test {
         LaneTest::Const { lane, op, constant } => match feed_at(feeds, *lane) {
             None => *marks = Marks::none(),
-            Some(feed) => keep_compared(feed.column, *op, *constant, rows, marks),
+            Some(feed) => keep_compared(feed.property.column(), *op, *constant, rows, marks),
         },
         LaneTest::All(tests) => keep_all(tests.as_slice(), feeds, rows, marks),
         _ => keep_each(test, feeds, rows, marks),

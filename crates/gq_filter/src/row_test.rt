@@ -4,7 +4,7 @@ ghost use Rattle.std.specs.Prelude.{◌≡◌, ◌≤◌, ◌<◌, ◌-◌, ◌&
 ghost use Rattle.std.specs.Prelude.{true};
 ghost use Rattle.gq_bits.specs.Places.{is_marked};
 ghost use Rattle.gq_filter.specs.Equal.{HaveOne};
-ghost use Rattle.gq_filter.specs.Placed.{IsPlacedTest};
+ghost use Rattle.gq_filter.specs.Placed.{IsPassingTest, IsPlacedTest};
 ghost use Rattle.gq_filter.specs.RowTests.{condition_over, conditions_of, is_true_of, ReadsRows};
 ghost use Rattle.gq_filter.specs.Rows.{count_in, row_in, with_row};
 ghost use Rattle.gq_filter.specs.steps.RowCells.{AreOfNodes};
@@ -15,7 +15,6 @@ ghost use Rattle.gq_plan.specs.declared.assignment.Assignment.{Assignment};
 use crate::cells::holds_at;
 use crate::deciders::{evaluator_of, is_true, test_of};
 use crate::equalities::{EqualColumns, equal_columns};
-use crate::feeds::Feed;
 use crate::kernels::keep_lanes;
 use crate::lane_test::LaneTest;
 use crate::placed::{PlacedTest, placed_test};
@@ -23,6 +22,7 @@ use crate::recall::Recall;
 use crate::row_cells::RowCells;
 use crate::row_feeds::add_feeds;
 use crate::rows::Rows;
+use crate::source::Feed;
 use crate::span_lanes::SpanLanes;
 use crate::standing::keep_standing;
 use crate::standing_row::StandingRow;
@@ -156,7 +156,7 @@ impl<'g> RowTest<'g> {
             return 0;
         }
         match feeds.first() {
-            Some(feed) => feed.column.len(),
+            Some(feed) => feed.property.column().len(),
             None => 0,
         }
     }
@@ -183,10 +183,11 @@ impl<'g> RowTest<'g> {
         }
     }
 
-    /// What tells of a place that the condition is not true of the relationship there, if lanes of
+    /// What tells of a place whether the condition is true of the relationship there, if lanes of
     /// that relationship's variable alone decide it.
     pub fn placed(&self, rel: u32) -> Option<PlacedTest<'_>>
-        ensures { IfSome result (IsPlacedTest self.now rel) }
+        ensures refuses { IfSome result (IsPlacedTest self.now rel) }
+        ensures passes { IfSome result (IsPassingTest self.now rel) }
     {
         match &self.test {
             None => None,
@@ -347,8 +348,8 @@ fn are_spanned(feeds: &[Feed<'_>], variable: u32, high: u32) -> bool
 fn is_spanned(feed: &Feed<'_>, variable: u32, high: u32) -> bool
     ensures { IsTrue result → IsSpanned variable high feed.now }
 {
-    match feed.source.variable {
-        Variable::Node(node) => node == variable && high <= feed.column.len(),
+    match feed.variable {
+        Variable::Node(node) => node == variable && high <= feed.property.column().len(),
         Variable::Rel(_) => false,
     }
 }
@@ -358,7 +359,7 @@ fn are_of_nodes(feeds: &[Feed<'_>]) -> bool
     ensures { IsTrue result → AreOfNodes feeds.now }
 {
     for feed in feeds {
-        match feed.source.variable {
+        match feed.variable {
             Variable::Node(_) => {}
             Variable::Rel(_) => return false,
         }

@@ -3,8 +3,8 @@ ghost use Rattle.std.specs.Prelude.{◌≡◌, ◌≤◌, ◌-◌, slice_get};
 ghost use Rattle.gq_bits.specs.declared.TheConstants.{VECTOR};
 ghost use Rattle.gq_filter.specs.steps.SpanLanes.{HaveRows};
 
-use crate::feeds::Feed;
 use crate::lanes::{Lane, Lanes};
+use crate::source::Feed;
 use gq_bits::{Marks, VECTOR};
 
 /// The lanes of the rows from `low` up to, but without, `high`, each gathered when it is asked for.
@@ -30,7 +30,8 @@ impl Lanes for SpanLanes<'_> {
         match feed_at(self.feeds, lane) {
             None => {}
             Some(feed) => {
-                feed.column
+                feed.property
+                    .column()
                     .gather_span(self.low, self.high, &mut cells, &mut known);
             }
         }

@@ -43,10 +43,10 @@ impl StandingRow<'_> {
     {
         match feed_at(self.feeds, lane) {
             None => RowLane::Stands(None),
-            Some(feed) => match feed.source.variable {
+            Some(feed) => match feed.variable {
                 Variable::Node(node) => {
                     if node == self.variable {
-                        return RowLane::Moves(feed.column);
+                        return RowLane::Moves(feed.property.column());
                     }
                     RowLane::Stands(self.stands(lane))
                 }

@@ -2,7 +2,7 @@
 ghost use Rattle.std.specs.Prelude.{◌<◌, length};
 ghost use Rattle.gq_filter.specs.steps.RowCells.{AreInside};
 
-use crate::feeds::Feed;
+use crate::source::Feed;
 use gq_plan::Assignment;
 use gq_store::Graph;
 

@@ -19,12 +19,11 @@ use crate::row_cells::cell_at;
 use crate::rows::Rows;
 use gq_base::{Kind, Memory, Text, TextTest};
 use gq_bits::{Marks, VECTOR};
-use gq_column::Column;
 use gq_dict::Dict;
 use gq_expr::{Expr, ExprTester, Tester};
 use gq_plan::{Assignment, NamedExpr, Typed};
 use gq_row_sets::RowSet;
-use gq_store::Graph;
+use gq_store::{Graph, Property};
 use memchr::memmem::Finder;
 use std::alloc::Global;
 
@@ -43,8 +42,7 @@ const FEW_BYTES: usize = 32_768;
 #[derive(Drop)]
 pub(crate) struct PartTest<'g> {
     variable: u32,
-    column: &'g Column,
-    dict: &'g Dict,
+    property: &'g Property,
     part: Part<'g>,
 }
 
@@ -98,7 +96,7 @@ impl CodeSet {
             return;
         }
         let mut often = false;
-        'pieces: for _ in 0..test.dict.len().div_ceil(VECTOR) {
+        'pieces: for _ in 0..test.property.dict().len().div_ceil(VECTOR) {
             often = try_codes(&mut self.known, test, often);
         }
     }
@@ -112,8 +110,9 @@ fn try_codes(known: &mut RowSet, test: &PartTest<'_>, often: bool) -> bool
 {
     let low = known.told();
     let high = known.next_end();
-    let alone = often && are_short(test.dict, low, high);
-    let marks = marks_of(&test.part, test.dict, low, high, alone);
+    let dict = test.property.dict();
+    let alone = often && are_short(dict, low, high);
+    let marks = marks_of(&test.part, dict, low, high, alone);
     let often = marks.count() > (high - low) / 2;
     let _ = known.tell(marks);
     often
@@ -164,11 +163,11 @@ fn tried_marks(part: &Part<'_>, dict: &Dict, low: u32, high: u32) -> Marks
 
 /// How many codes the dictionary of a test has, if there is a test.
 pub(crate) fn code_count(test: &Option<PartTest<'_>>) -> u32
-    ensures { IfSome test.now (λ t. result ≡ length t.dict.now) }
+    ensures { IfSome test.now (λ t. result ≡ length t.property.now.dict) }
 {
     match test {
         None => 0,
-        Some(test) => test.dict.len(),
+        Some(test) => test.property.dict().len(),
     }
 }
 
@@ -223,24 +222,24 @@ impl PartTest<'_> {
     // Whether the text of a code has the part.
     fn passes_code(&self, codes: &CodeSet, code: u32) -> bool
         requires known { IsKnown self.now codes.now.known }
-        requires within { code < length self.now.dict.now }
-        ensures { result ≡ is_in self.now.part (text_at self.now.dict.now code) }
+        requires within { code < length self.now.property.now.dict }
+        ensures { result ≡ is_in self.now.part (text_at self.now.property.now.dict code) }
     {
         let told = codes.known.told();
         if code < told {
             return codes.known.has(code);
         }
-        is_in(&self.part, self.dict.text(code))
+        is_in(&self.part, self.property.dict().text(code))
     }
 
     // The code of the text of a row of the variable.
     fn code(&self, row: u32) -> Option<u32>
-        ensures value { result ≡ code_in (length self.now.dict.now)
-            (cell_at self.now.column.now row) }
-        ensures within { IfSome result (λ code. code < length self.now.dict.now) }
+        ensures value { result ≡ code_in (length self.now.property.now.dict)
+            (cell_at self.now.property.now.column row) }
+        ensures within { IfSome result (λ code. code < length self.now.property.now.dict) }
     {
-        let cell = cell_at(self.column, row)?;
-        code_in(self.dict.len(), cell)
+        let cell = cell_at(self.property.column(), row)?;
+        code_in(self.property.dict().len(), cell)
     }
 }
 
@@ -313,11 +312,10 @@ pub(crate) fn text_test<'g>(
                 let part = part_of(testers.as_slice())?;
                 let table = *typed.nodes.get(*variable as usize)?;
                 let feed = node_feed(graph, *variable, table, name)?;
-                match feed.source.kind {
+                match feed.property.kind() {
                     Kind::Str => Some(PartTest {
                         variable: *variable,
-                        column: feed.column,
-                        dict: feed.source.dict,
+                        property: feed.property,
                         part,
                     }),
                     Kind::Int => None,

@@ -25,7 +25,7 @@ use Rattle.gq_filter.specs.Cells.{IsInLane}
 use Rattle.gq_filter.specs.Deciding.{wanted}
 use Rattle.gq_filter.specs.Equal.{cell_if, node_cell}
 use Rattle.gq_filter.specs.declared.equalities.NodeColumn.{NodeColumn}
-use Rattle.gq_filter.specs.declared.feeds.Feed.{Feed}
+use Rattle.gq_filter.specs.declared.source.Feed.{Feed}
 use Rattle.gq_filter.specs.steps.RowCells.{IsNodeFeedIn, cell_in}
 use Rattle.gq_plan.specs.Conditions.{passes}
 use Rattle.gq_plan.specs.Rows.{as_read}
@@ -40,13 +40,13 @@ same_cell : (c : NodeColumn) (o : Option ℕ) → cell_in c.column.now o ≡ cel
 same_cell c None = refl
 same_cell c (Some r) = refl
 
-pub text_cell : (g : Graph) (y : Typed) (feed : Feed) (f : IsNodeFeedIn g y feed) (c : NodeColumn) → c.node ≡ f.variable → c.column.now ≡ feed.column.now → feed.source.kind ≡ string → (row : Assignment)
-    → IsInLane string feed.source.dict.now (property_at (node_property g) ((as_read y row).nodes f.variable) f.name) (node_cell c row)
+pub text_cell : (g : Graph) (y : Typed) (feed : Feed) (f : IsNodeFeedIn g y feed) (c : NodeColumn) → c.node ≡ f.variable → c.column.now ≡ feed.property.now.column → feed.property.now.kind ≡ string → (row : Assignment)
+    → IsInLane string feed.property.now.dict (property_at (node_property g) ((as_read y row).nodes f.variable) f.name) (node_cell c row)
 text_cell g y feed f c node_is column_is of row =
     let v = property_at (node_property g) ((as_read y row).nodes f.variable) f.name in
-    subst (λ k. IsInLane k feed.source.dict.now v (node_cell c row)) of
-    (subst (IsInLane feed.source.kind feed.source.dict.now v)
-    (ap (λ n. cell_in feed.column.now (slice_get row.nodes n)) (sym node_is) ∙ ap (λ cells. cell_in cells (slice_get row.nodes c.node)) (sym column_is) ∙ same_cell c (slice_get row.nodes c.node))
+    subst (λ k. IsInLane k feed.property.now.dict v (node_cell c row)) of
+    (subst (IsInLane feed.property.now.kind feed.property.now.dict v)
+    (ap (λ n. cell_in feed.property.now.column (slice_get row.nodes n)) (sym node_is) ∙ ap (λ cells. cell_in cells (slice_get row.nodes c.node)) (sym column_is) ∙ same_cell c (slice_get row.nodes c.node))
     (node_text g y feed f row))
 
 -- a value that is a text, and its cell the code of it

@@ -120,13 +120,13 @@ fn text_column<'g>(
 {
     let table = *typed.nodes.get(node as usize)?;
     let feed = node_feed(graph, node, table, name)?;
-    match feed.source.kind {
+    match feed.property.kind() {
         Kind::Str => Some(TextColumn {
             cells: NodeColumn {
                 node,
-                column: feed.column,
+                column: feed.property.column(),
             },
-            dict: feed.source.dict,
+            dict: feed.property.dict(),
         }),
         Kind::Int => None,
         Kind::Flag => None,

@@ -1,14 +1,14 @@
 -- Lanes of one relationship variable, whose cells stand by place.
 use Rattle.std.specs.Prelude.{ℕ, ◌≡◌, ◌≤◌, List, Some, length, slice_get}
 use Rattle.gq_plan.specs.declared.variable.Variable.TheVariants.{Rel}
-use Rattle.gq_filter.specs.declared.feeds.Feed.{Feed}
+use Rattle.gq_filter.specs.declared.source.Feed.{Feed}
 use Rattle.gq_filter.specs.declared.lane_test.LaneTest.{LaneTest}
 use Rattle.gq_filter.specs.declared.placed.PlacedTest.{PlacedTest}
 
 -- a lane of the variable, whose column has so many places
 pub record IsPlaced (x places : ℕ) (feed : Feed) : Type 0 where
-  pub of_rel : feed.source.variable ≡ Rel x
-  pub inside : places ≤ length feed.column.now
+  pub of_rel : feed.variable ≡ Rel x
+  pub inside : places ≤ length feed.property.now.column
 
 abbrev pub ArePlaced : ℕ → ℕ → List Feed → Type 0
 ArePlaced x places feeds = (lane : ℕ) (feed : Feed) → slice_get feeds lane ≡ Some feed → IsPlaced x places feed

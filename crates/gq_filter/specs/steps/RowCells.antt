@@ -16,7 +16,7 @@ use Rattle.gq_store.specs.Cells.{rel_cell, rel_fields}
 use Rattle.gq_store.specs.Columns.{flag_code}
 use Rattle.gq_filter.specs.Feeds.{IsNodeFeed, IsRelFeed}
 use Rattle.gq_filter.specs.LaneTests.{holds}
-use Rattle.gq_filter.specs.declared.feeds.Feed.{Feed}
+use Rattle.gq_filter.specs.declared.source.Feed.{Feed}
 use Rattle.gq_filter.specs.declared.lane_test.LaneTest.{LaneTest}
 use Rattle.gq_filter.specs.declared.source.ColumnId.{ColumnId}
 
@@ -39,12 +39,12 @@ rel_lane g c (Some number) = number_of (cell_val (rel_cell g c.table c.property 
 
 -- the cell of a feed of a variable in a row
 abbrev pub lane_of : Graph → Assignment → Feed → Variable → Option ℤ
-lane_of g row feed (Node v) = cell_in feed.column.now (slice_get row.nodes v)
-lane_of g row feed (Rel x) = rel_lane g feed.source.column (slice_get row.rels x)
+lane_of g row feed (Node v) = cell_in feed.property.now.column (slice_get row.nodes v)
+lane_of g row feed (Rel x) = rel_lane g feed.column (slice_get row.rels x)
 
 abbrev pub cell_of : Graph → Assignment → Option Feed → Option ℤ
 cell_of g row None = None
-cell_of g row (Some feed) = lane_of g row feed feed.source.variable
+cell_of g row (Some feed) = lane_of g row feed feed.variable
 
 abbrev pub cells_of : Graph → List Feed → Assignment → ℕ → Option ℤ
 cells_of g feeds row lane = cell_of g row (slice_get feeds lane)
@@ -66,7 +66,7 @@ pub record IsRelFeedIn (g : Graph) (y : Typed) (feed : Feed) : Type 0 where
   pub name : List ℕ
   pub rel_is : slice_get y.rels variable ≡ Some rel
   pub within : rel.table < length g.catalog.rels
-  pub no_text : feed.source.kind ≢ Str
+  pub no_text : feed.property.now.kind ≢ Str
   pub is : IsRelFeed g variable rel.table name feed
 
 abbrev pub IsFeedIn : Graph → Typed → Feed → Type 0
@@ -77,8 +77,8 @@ AreFeedsIn g y feeds = (lane : ℕ) (feed : Feed) → slice_get feeds lane ≡ S
 
 -- the columns of relationships are there
 abbrev pub AreInside : Graph → List Feed → Type 0
-AreInside g feeds = (lane : ℕ) (feed : Feed) (x : ℕ) → slice_get feeds lane ≡ Some feed → feed.source.variable ≡ Rel x →
-    (feed.source.column.table < length g.catalog.rels) × (feed.source.column.property < length (rel_fields g feed.source.column.table))
+AreInside g feeds = (lane : ℕ) (feed : Feed) (x : ℕ) → slice_get feeds lane ≡ Some feed → feed.variable ≡ Rel x →
+    (feed.column.table < length g.catalog.rels) × (feed.column.property < length (rel_fields g feed.column.table))
 
 -- ---- tests
 
@@ -92,4 +92,4 @@ IsOfNode (Node v) = Unit {0}
 IsOfNode (Rel x) = ⊥
 
 abbrev pub AreOfNodes : List Feed → Type 0
-AreOfNodes feeds = (lane : ℕ) (feed : Feed) → slice_get feeds lane ≡ Some feed → IsOfNode feed.source.variable
+AreOfNodes feeds = (lane : ℕ) (feed : Feed) → slice_get feeds lane ≡ Some feed → IsOfNode feed.variable

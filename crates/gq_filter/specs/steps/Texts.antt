@@ -45,11 +45,11 @@ coded_passes dict part (Some code) = is_in part (text_at dict code)
 
 -- the text of a row of the variable is there and has the part
 abbrev pub row_passes : PartTest → ℕ → Bool
-row_passes t row = coded_passes t.dict.now t.part (code_in (length t.dict.now) (cell_at t.column.now row))
+row_passes t row = coded_passes t.property.now.dict t.part (code_in (length t.property.now.dict) (cell_at t.property.now.column row))
 
 -- the text of the variable's node in a row is there and has the part
 abbrev pub text_passes : PartTest → Assignment → Bool
-text_passes t row = coded_passes t.dict.now t.part (code_in (length t.dict.now) (cell_in t.column.now (slice_get row.nodes t.variable)))
+text_passes t row = coded_passes t.property.now.dict t.part (code_in (length t.property.now.dict) (cell_in t.property.now.column (slice_get row.nodes t.variable)))
 
 -- a test, if there is one, holds in exactly the rows in which a condition is true
 abbrev pub TextDecides : Graph → Typed → NamedExpr → Option PartTest → Type 0
@@ -57,8 +57,8 @@ TextDecides g y condition test = IfSome test (λ t. (row : Assignment) → text_
 
 -- of the first codes of the dictionary it is told whether their texts have the part
 pub record IsKnown (t : PartTest) (s : RowsTold) : Type 0 where
-  pub few : s.rows ≤ length t.dict.now
-  pub tells : (code : ℕ) → code < length s.told → is_marked s.told code ≡ is_in t.part (text_at t.dict.now code)
+  pub few : s.rows ≤ length t.property.now.dict
+  pub tells : (code : ℕ) → code < length s.told → is_marked s.told code ≡ is_in t.part (text_at t.property.now.dict code)
 
 -- the same of a test that may be there
 abbrev pub AreKnown : Option PartTest → RowsTold → Type 0

@@ -10,5 +10,5 @@ compile-requires-clause-sound c = source_of c.args.graph.now c.args.part.now c.a
 
 pub returns-in-Some-2 : goal.returns-in-Some-2
 returns-in-Some-2 c =
-    let decides = subst {A = Option LaneTest} (λ found. IfSome found (Decides true (c.in-Some-node_feed.feed.source ∷ []) c.args.asked.now.expr)) c.in-Some-2.is (rw c.get-expr.ensures at c.in_ok-compile.ensures) in
-    needed c.args.graph.now c.args.part.now c.args.table c.in-Some.name.now c.in-Some-node_feed.feed c.in-Some-node_feed.ensures.some c.args.asked.now c.requires.asked c.in-Some-2.test decides
+    let decides = subst {A = Option LaneTest} (λ found. IfSome found (Decides true (c.in-Some-node_feed.feed ∷ []) c.args.asked.now.expr)) c.in-Some-2.is (rw c.get-expr.ensures at c.in_ok-compile.ensures) in
+    needed c.args.graph.now c.args.part.now c.args.table c.in-Some.name.now c.in-Some-node_feed.feed c.in-Some-node_feed.ensures.some c.args.asked.now c.requires.asked c.in-Some-2.test c.column.result c.column.ensures.is decides

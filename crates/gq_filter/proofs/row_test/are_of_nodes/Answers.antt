@@ -2,7 +2,7 @@ use Rattle.std.proofs.Common.{◌≡◌, ◌∙◌, Some, length, refl, sym, ap,
 use Rattle.std.specs.Prelude.{slice_get}
 use Rattle.std.proofs.lemmas.Bool.{cases_eq}
 use Rattle.std.proofs.lemmas.Option.{slice_get_read, slice_get_within}
-use Rattle.gq_filter.specs.declared.feeds.Feed.{Feed}
+use Rattle.gq_filter.specs.declared.source.Feed.{Feed}
 use Rattle.gq_filter.specs.steps.RowCells.{IsOfNode}
 use Rattle.gq_filter.proofs.row_test.are_of_nodes.Goals as goal
 
@@ -14,7 +14,7 @@ loop-feed-preserved c = λ lane feed below at. elim (cases_eq lane c.loop-feed.f
       let here : slice_get feeds c.loop-feed.feed-index ≡ Some item = slice_get_read feeds (length feeds) c.loop-feed.feed-index item refl c.loop-feed-test.true c.feed-item.is in
       let found : slice_get feeds c.loop-feed.feed-index ≡ Some feed = ap (slice_get feeds) (sym same) ∙ at in
       let one : item ≡ feed = cc in
-      subst (λ (f : Feed). IsOfNode f.source.variable) one (subst IsOfNode (sym c.in-Node.is) tt))
+      subst (λ (f : Feed). IsOfNode f.variable) one (subst IsOfNode (sym c.in-Node.is) tt))
   | inr other ↦ c.loop-feed.invariant lane feed (omega (arith, below, other)) at
 ]
 

@@ -1,8 +1,8 @@
 use Rattle.std.proofs.Common.{◌≡◌, ◌<◌, ℕ, Some}
 use Rattle.std.specs.Prelude.{slice_get}
-use Rattle.gq_filter.specs.declared.feeds.Feed.{Feed}
+use Rattle.gq_filter.specs.declared.source.Feed.{Feed}
 use Rattle.gq_filter.specs.steps.RowCells.{IsOfNode}
 use Rattle.gq_filter.proofs.row_test.are_of_nodes.Given as goal
 
 abbrev pub invariant-loop-feed : goal.invariant-loop-feed
-invariant-loop-feed l = (lane : ℕ) (feed : Feed) → lane < l.feed-index → slice_get l.feeds lane ≡ Some feed → IsOfNode feed.source.variable
+invariant-loop-feed l = (lane : ℕ) (feed : Feed) → lane < l.feed-index → slice_get l.feeds lane ≡ Some feed → IsOfNode feed.variable

@@ -1,6 +1,6 @@
 use Rattle.std.proofs.Common.{◌≡◌, ◌<◌, ℕ, Some}
 use Rattle.std.specs.Prelude.{slice_get}
-use Rattle.gq_filter.specs.declared.feeds.Feed.{Feed}
+use Rattle.gq_filter.specs.declared.source.Feed.{Feed}
 use Rattle.gq_filter.specs.steps.SpanLanes.{IsSpanned}
 use Rattle.gq_filter.proofs.row_test.are_spanned.Given as goal
 

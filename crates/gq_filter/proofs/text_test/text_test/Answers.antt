@@ -1,4 +1,4 @@
-use Rattle.std.proofs.Common.{◌≡◌, ◌∷◌, [], sym}
+use Rattle.std.proofs.Common.{◌≡◌, ◌∷◌, ◌∙◌, [], sym}
 use Rattle.gq_expr.specs.declared.expr.Expr.TheVariants.{NodeProperty, Test}
 use Rattle.gq_filter.proofs.Texts.{text_decides}
 use Rattle.gq_filter.specs.steps.RowCells.{IsNodeFeedIn}
@@ -21,4 +21,4 @@ returns-in-Str c =
       table_is = sym c.in_ok-table-in-NodeProperty.ensures.value;
       is = c.in_ok-feed-in-NodeProperty.ensures.some;
     } in
-    text_decides g y c.args.condition.now feed part found asked c.in-Str.is
+    text_decides g y c.args.condition.now feed part found asked (sym c.kind.ensures ∙ c.in-Str.is)

@@ -22,7 +22,7 @@ returns-in_ok-row-in-Node c =
     let g = c.args.self.now.graph.now in
     let row = c.args.self.now.row.now in
     let feed = c.in_ok-feed.feed.now in
-    c.cell_at.ensures ∙ ap (cell_in feed.column.now) c.in_ok-row-in-Node.ensures.value
+    (rw c.column.ensures.is at c.cell_at.ensures) ∙ ap (cell_in feed.property.now.column) c.in_ok-row-in-Node.ensures.value
     ∙ sym (ap (cell_of g row) (here (goal.at.returns-in_ok-row-in-Node c).In_ok-feed) ∙ ap (lane_of g row feed) c.in-Node.is)
 
 pub returns-in_ok-number-in-Rel : goal.returns-in_ok-number-in-Rel
@@ -30,5 +30,5 @@ returns-in_ok-number-in-Rel c =
     let g = c.args.self.now.graph.now in
     let row = c.args.self.now.row.now in
     let feed = c.in_ok-feed.feed.now in
-    c.rel_lane.ensures ∙ ap (rel_lane g feed.source.column) c.in_ok-number-in-Rel.ensures.value
+    c.rel_lane.ensures ∙ ap (rel_lane g feed.column) c.in_ok-number-in-Rel.ensures.value
     ∙ sym (ap (cell_of g row) (here (goal.at.returns-in_ok-number-in-Rel c).In_ok-feed) ∙ ap (lane_of g row feed) c.in-Rel.is)

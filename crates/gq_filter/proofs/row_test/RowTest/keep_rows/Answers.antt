@@ -2,7 +2,7 @@ use Rattle.std.proofs.Common.{◌≡◌, ◌≤◌, ◌-◌, ◌&&◌, ℕ, List
 use Rattle.gq_bits.specs.Places.{is_marked}
 use Rattle.gq_filter.specs.RowTests.{RowCondition, is_true_of}
 use Rattle.gq_filter.specs.Rows.{count_in, row_in, with_row}
-use Rattle.gq_filter.specs.declared.feeds.Feed.{Feed}
+use Rattle.gq_filter.specs.declared.source.Feed.{Feed}
 use Rattle.gq_filter.specs.declared.lane_test.LaneTest.{LaneTest}
 use Rattle.gq_filter.specs.declared.rows.Rows.{Rows}
 use Rattle.gq_filter.specs.steps.Recalling.{TellsOf, TellsTest}

@@ -13,5 +13,5 @@ returns c = λ place.
       | in-None w ↦ ap (λ o. span_cell l.low l.high o place) (sym w.in-None.ensures)
           ∙ sym (ap (λ b. cond b (Some (cell c.match-feed_at.cells place)) None) (ap (λ m. is_marked m place) w.known-is ∙ c.none-known.ensures.blank place))
       | in-Some w ↦ ap (λ o. span_cell l.low l.high o place) (sym w.in-Some.ensures)
-          ∙ sym (rw (w.cells-is, w.known-is) (gathered_lane w.in-Some.feed.column.now l.low l.high _ _ _ w.gather_span.ensures place))
+          ∙ sym (rw (w.cells-is, w.known-is) (gathered_lane w.in-Some.feed.property.now.column l.low l.high _ _ _ (rw w.column.ensures.is at w.gather_span.ensures) place))
     ]
