@@ -12,7 +12,7 @@ use Rattle.gq_steps.specs.Levels.{step_at}
 use Rattle.gq_steps.specs.Moves.{run_of, run_step}
 use Rattle.gq_steps.specs.declared.action.Action.{Action}
 use Rattle.gq_steps.specs.declared.action.Action.TheVariants as act
-use Rattle.gq_steps.specs.declared.plan_run.Follow.{Follow}
+use Rattle.gq_plan.specs.declared.follow.Follow.{Follow}
 use Rattle.gq_steps.specs.declared.plan_run.PlanRun.{PlanRun}
 use Rattle.gq_steps.specs.declared.plan_run.RunStep.{RunStep}
 

@@ -19,10 +19,11 @@ use Rattle.gq_law_groups.specs.Order.{NoGroups, AreCut}
 use Rattle.gq_law_groups.proofs.Alike.{AreAlike}
 use Rattle.gq_law_groups.proofs.Single.{from_small}
 use Rattle.gq_law_groups.proofs.Standing.{as_long, same_passes, next_group}
-use Rattle.gq_steps.specs.Keeps.{made_at, makes_one, IsSifted, IsRange, IsPlaceMade, IsTriedAt}
+use Rattle.gq_steps.specs.Keeps.{made_at, makes_one, IsSifted, IsRange, IsPlaceMade, IsTold, IsTriedAt}
+use Rattle.gq_steps.specs.Tests.{IsCut}
 use Rattle.gq_steps.specs.Actions.{action_of}
 use Rattle.gq_steps.specs.Levels.{Run, step_at, built_at, built_of, known, before}
-use Rattle.gq_steps.specs.steps.Lists.{flat_in, rows_in, layout_in, AreBound, IsAtStep, Chain, Stands, IsUntested}
+use Rattle.gq_steps.specs.steps.Lists.{flat_in, rows_in, layout_in, AreBound, IsAtStep, Chain, IsGrouped, Stands, IsUntested}
 use Rattle.gq_steps.specs.Groups.{no_group, group_at, group_in, groups_in, Tiles}
 use Rattle.gq_steps.specs.Moves.{run_of, IsRun, IsHeld, IsAlike, steps_in}
 use Rattle.gq_steps.specs.Tries.{tries}
@@ -32,6 +33,7 @@ use Rattle.gq_steps.proofs.Joined.{build_at}
 use Rattle.gq_steps.specs.declared.group_steps.GroupSteps.{GroupSteps}
 use Rattle.gq_steps.proofs.Binding.{before_alike, fits_at}
 use Rattle.gq_steps.proofs.Going.{less_held, less_alike}
+use Rattle.gq_steps.proofs.Standings.{tile_at}
 use Rattle.gq_steps.specs.declared.plan_run.PlanRun.{PlanRun}
 use Rattle.gq_steps.proofs.Trying.{as_many_steps}
 use Rattle.gq_steps.proofs.Whole.{raw_long, made_is}
@@ -175,6 +177,13 @@ module _ (c : Run) (run : IsRun c) where
   pub rows_fit : (d : ℕ) → d < length c.steps → HasRows c.graph c.typed (built_at c d) (step_at c d)
   rows_fit d low = has_rows (step_at c d) (slice_index_or c.builds d None) (build_at c.graph c.typed c.steps c.builds d run.builds low)
 
+-- ---- each group is told what it does and how its places are found
+
+pub told_at : (c : Run) (ss : List GroupSteps) → IsGrouped c ss → (i : ℕ) → i < length ss → IsTold c (group_at ss i)
+told_at c ss grouped i low =
+    let within = tile_at c 0 ss grouped.tiles i low in
+    record { some = within.some; inside = within.inside; action = grouped.actions i low; cut = grouped.cuts i low }
+
 -- ---- the next group
 
 module _ (c : Run) (ss : List GroupSteps) (row : Assignment) (pre : List ℕ) (st : Stands c ss row pre) (low : length pre < length ss) where
@@ -186,6 +195,7 @@ module _ (c : Run) (ss : List GroupSteps) (row : Assignment) (pre : List ℕ) (s
     some = at.some;
     inside = at.inside;
     action = subst (λ (s : GroupSteps). s.action ≡ action_of (step_at c s.first)) at.is (st.grouped.actions (length pre) low);
+    cut = subst (λ (s : GroupSteps). IsCut c s.first s.end s.cut) at.is (st.grouped.cuts (length pre) low);
     tests = no_group_at;
     small = λ d after_it before_end a.
         (let inside = at.inside in

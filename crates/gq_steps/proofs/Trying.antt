@@ -29,7 +29,7 @@ use Rattle.gq_plan.specs.Rows.{node_at, node_table, rel_table}
 use Rattle.gq_plan.specs.declared.assignment.Assignment.{Assignment}
 use Rattle.gq_steps.specs.declared.plan_run.PlanRun.{PlanRun}
 use Rattle.gq_steps.specs.declared.plan_run.RunStep.{RunStep}
-use Rattle.gq_steps.specs.declared.plan_run.Follow.{Follow}
+use Rattle.gq_plan.specs.declared.follow.Follow.{Follow}
 use Rattle.gq_steps.specs.declared.plan_run.Tried.{Tried}
 use Rattle.gq_steps.specs.declared.plan_run.Tried.TheVariants.{Past, Missed, Made}
 use Rattle.gq_law_groups.specs.Groups.{makes_group}

@@ -6,7 +6,7 @@ use Rattle.gq_plan.specs.declared.halves.Half.TheVariants.{Whole, First, Second}
 use Rattle.gq_base.specs.declared.direction.Direction.{Direction}
 use Rattle.gq_steps.specs.declared.action.Action.{Action}
 use Rattle.gq_steps.specs.declared.action.Action.TheVariants as act
-use Rattle.gq_steps.specs.declared.plan_run.Follow.{Follow}
+use Rattle.gq_plan.specs.declared.follow.Follow.{Follow}
 
 -- how a relationship variable is followed between node variables
 abbrev pub followed : ℕ → ℕ → ℕ → Direction → Follow

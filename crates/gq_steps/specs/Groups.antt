@@ -4,10 +4,11 @@ use Rattle.gq_plan.specs.Plans.{Step, Keep}
 use Rattle.gq_law_groups.specs.Groups.{Group}
 use Rattle.gq_steps.specs.Levels.{Run}
 use Rattle.gq_steps.specs.declared.action.Action.TheVariants as act
+use Rattle.gq_steps.specs.declared.cut.Cut.TheVariants as cut
 use Rattle.gq_steps.specs.declared.group_steps.GroupSteps.{GroupSteps}
 
 abbrev pub no_group : GroupSteps
-no_group = record { first = 0; end = 0; flat = false; action = act.Scan 0 }
+no_group = record { first = 0; end = 0; flat = false; action = act.Scan 0; cut = cut.Each }
 
 abbrev pub group_at : List GroupSteps → ℕ → GroupSteps
 group_at ss i = slice_index_or ss i no_group

@@ -9,6 +9,7 @@ use Rattle.gq_law_groups.specs.Groups.{makes_group}
 use Rattle.gq_steps.specs.Actions.{action_of}
 use Rattle.gq_steps.specs.Levels.{Run, step_at, built_at, known, before}
 use Rattle.gq_steps.specs.Moves.{IsHeld, IsAlike, IsMade}
+use Rattle.gq_steps.specs.Tests.{IsCut}
 use Rattle.gq_steps.specs.Tries.{tries}
 use Rattle.gq_steps.specs.declared.group_steps.GroupSteps.{GroupSteps}
 
@@ -20,11 +21,19 @@ made_by c from end a = mean c.graph c.typed (steps (take (end - from) (drop from
 abbrev pub made_at : Run → GroupSteps → ℕ → Assignment → List Partial
 made_at c group place row = flat_map (made_by c (group.first + 1) group.end) (slice_index_or (tries c.graph c.typed (built_at c group.first) (step_at c group.first) (before c row group.first)) place [])
 
--- steps of the plan, of the first of which it is told what it does; those after it make no group, and at most one assignment each
+-- steps of the plan; it is told what the first one does, and how the places are found that all of them keep
+pub record IsTold (c : Run) (group : GroupSteps) : Type 0 where
+  pub some : group.first < group.end
+  pub inside : group.end ≤ length c.steps
+  pub action : group.action ≡ action_of (step_at c group.first)
+  pub cut : IsCut c group.first group.end group.cut
+
+-- so it is told, and those after the first one make no group, and at most one assignment each
 pub record IsRange (c : Run) (group : GroupSteps) : Type 0 where
   pub some : group.first < group.end
   pub inside : group.end ≤ length c.steps
   pub action : group.action ≡ action_of (step_at c group.first)
+  pub cut : IsCut c group.first group.end group.cut
   pub tests : (d : ℕ) → group.first < d → d < group.end → makes_group (step_at c d) ≡ false
   pub small : (d : ℕ) → group.first < d → d < group.end → (a : Partial) → length (tries c.graph c.typed (built_at c d) (step_at c d) a) ≤ 1
 

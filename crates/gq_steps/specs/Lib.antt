@@ -9,5 +9,6 @@ pub mod Matches
 pub mod Moves
 pub mod Pieces
 pub mod Reaching
+pub mod Tests
 pub mod Tries
 pub mod steps

@@ -4,7 +4,7 @@ use Rattle.gq_base.specs.Plain.{Graph}
 use Rattle.gq_plan.specs.Rows.{rel_table}
 use Rattle.gq_plan.specs.declared.assignment.Assignment.{Assignment}
 use Rattle.gq_plan.specs.declared.typed.Typed.{Typed}
-use Rattle.gq_steps.specs.declared.plan_run.Follow.{Follow}
+use Rattle.gq_plan.specs.declared.follow.Follow.{Follow}
 use Rattle.gq_base.specs.Directions.{opposite}
 use Rattle.gq_store.specs.Neighbours.{near_rows, neighbours}
 

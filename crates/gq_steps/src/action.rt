@@ -4,8 +4,8 @@ ghost use Rattle.gq_steps.specs.Actions.{action_of, half_action};
 ghost use Rattle.gq_steps.specs.Levels.{step_at};
 ghost use Rattle.gq_steps.specs.Moves.{run_of, run_step, steps_in};
 
-use crate::plan_run::{Follow, PlanRun, RunStep, following};
-use gq_plan::{Half, Step};
+use crate::plan_run::{PlanRun, RunStep};
+use gq_plan::{Follow, Half, Step, following};
 
 /// What a step does, as much of it as runs. It has places, each of which binds something, or it tests
 /// what is bound.

@@ -1,6 +1,7 @@
 //! The steps of one group of a plan.
 
 use crate::action::Action;
+use crate::cut::Cut;
 
 /// The steps of one group: the one that makes it, and those that are placed at it.
 #[derive(Clone, Copy)]
@@ -10,4 +11,6 @@ pub struct GroupSteps {
     pub flat: bool,
     /// What the one does that makes it.
     pub action: Action,
+    /// How the places are found that all of them keep.
+    pub cut: Cut,
 }

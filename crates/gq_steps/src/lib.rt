@@ -5,6 +5,7 @@
 #![tactic(auto)]
 
 mod action;
+mod cut;
 mod follow;
 mod group_steps;
 mod pieces;
@@ -13,5 +14,6 @@ mod reaching;
 mod sizes;
 
 pub use action::Action;
+pub use cut::Cut;
 pub use group_steps::GroupSteps;
-pub use plan_run::{Follow, PlanRun, RunStep, Tried, following};
+pub use plan_run::{PlanRun, RunStep, Tried};

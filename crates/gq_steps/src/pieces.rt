@@ -14,10 +14,10 @@ ghost use Rattle.gq_store.specs.Neighbours.{near_rows, neighbours};
 
 use crate::action::Action;
 use crate::group_steps::GroupSteps;
-use crate::plan_run::{Follow, PlanRun};
+use crate::plan_run::PlanRun;
 use gq_bits::VECTOR;
 use gq_group::{KeptRels, Piece};
-use gq_plan::Assignment;
+use gq_plan::{Assignment, Follow};
 
 impl<'g> PlanRun<'g> {
     /// The piece that begins at a place of the list of a group's first step, which makes the group. A

@@ -20,11 +20,11 @@ ghost use Rattle.gq_steps.specs.steps.Outcomes.{differs_at, no_loop_at, tested};
 use crate::action::Action;
 use crate::follow::{Hop, hop_at};
 use crate::group_steps::GroupSteps;
-use gq_base::{Direction, List};
+use gq_base::List;
 use gq_expr::Assigned;
 use gq_filter::RowTest;
 use gq_join::Sealed;
-use gq_plan::{Assignment, Half, Step, Typed, TypedRow};
+use gq_plan::{Assignment, Follow, Half, Step, Typed, TypedRow, following};
 use gq_store::Graph;
 
 /// A step of a plan, and how much of it runs.
@@ -57,16 +57,6 @@ pub enum Tried {
     Missed,
     /// An assignment.
     Made,
-}
-
-/// How a step follows a relationship: its variable, the node variables from and to which, and which
-/// way.
-#[derive(Clone, Copy)]
-pub struct Follow {
-    pub rel: u32,
-    pub from: u32,
-    pub to: u32,
-    pub direction: Direction,
 }
 
 impl<'g> PlanRun<'g> {
@@ -361,17 +351,5 @@ fn tested(place: u32, passes: bool) -> Tried
         Tried::Made
     } else {
         Tried::Missed
-    }
-}
-
-/// A way to follow a relationship, of its parts.
-pub fn following(rel: u32, from: u32, to: u32, direction: Direction) -> Follow
-    ensures { result ≡ record { rel = rel; from = from; to = to; direction = direction } }
-{
-    Follow {
-        rel,
-        from,
-        to,
-        direction,
     }
 }

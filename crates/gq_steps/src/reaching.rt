@@ -3,8 +3,8 @@ ghost use Rattle.gq_steps.specs.Follows.{CanFollow};
 ghost use Rattle.gq_steps.specs.Reaching.{Reaches};
 
 use crate::follow::neighbour;
-use crate::plan_run::{Follow, PlanRun};
-use gq_plan::Assignment;
+use crate::plan_run::PlanRun;
+use gq_plan::{Assignment, Follow};
 
 impl PlanRun<'_> {
     /// Follows the relationship at a place among those that are followed, if there is one: the row to

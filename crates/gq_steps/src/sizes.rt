@@ -15,8 +15,8 @@ ghost use Rattle.gq_steps.specs.Tries.{tries};
 use crate::action::Action;
 use crate::follow::degree;
 use crate::group_steps::GroupSteps;
-use crate::plan_run::{Follow, PlanRun};
-use gq_plan::Assignment;
+use crate::plan_run::PlanRun;
+use gq_plan::{Assignment, Follow};
 
 impl PlanRun<'_> {
     /// How many places the first step of a group has, which makes it. A join's matches are told.

@@ -10,6 +10,7 @@ use Rattle.gq_law_groups.specs.Order.{AreCut}
 use Rattle.gq_steps.specs.Actions.{action_of}
 use Rattle.gq_steps.specs.Levels.{Run, step_at, built_at, known, before}
 use Rattle.gq_steps.specs.Moves.{IsRun, IsHeld}
+use Rattle.gq_steps.specs.Tests.{IsCut}
 use Rattle.gq_steps.specs.declared.group_steps.GroupSteps.{GroupSteps}
 use Rattle.gq_steps.specs.Groups.{group_at, group_in, groups_in, Tiles}
 
@@ -23,12 +24,14 @@ rows_in c ss i = built_at c (group_at ss i).first
 abbrev pub layout_in : Run → List GroupSteps → Layout
 layout_in c ss = layout_of c.graph c.typed (rows_in c ss) (flat_in ss) (groups_in c ss)
 
--- the groups are the steps of the plan, each begins with the step that makes it and is told what that does, and enough of them are flat
+-- the groups are the steps of the plan, each begins with the step that makes it and is told what that does and how its places are found, and enough of
+-- them are flat
 pub record IsGrouped (c : Run) (ss : List GroupSteps) : Type 0 where
   pub tiles : Tiles c 0 ss
   pub cut : AreCut (groups_in c ss)
   pub enough : AreFlatEnough c.graph.catalog c.typed (flat_in ss) 0 (groups_in c ss) none
   pub actions : (i : ℕ) → i < length ss → (group_at ss i).action ≡ action_of (step_at c (group_at ss i).first)
+  pub cuts : (i : ℕ) → i < length ss → IsCut c (group_at ss i).first (group_at ss i).end (group_at ss i).cut
 
 -- what is known is bound alike
 pub record AreBound (k : Known) (a b : Partial) : Type 0 where

@@ -12,7 +12,7 @@ use Rattle.gq_store.specs.Neighbours.{neighbours}
 use Rattle.gq_steps.specs.steps.Hops.{IsHop, IsHopAt}
 use Rattle.gq_plan.specs.Rows.{as_read, node_table, rel_table}
 use Rattle.gq_plan.specs.declared.assignment.Assignment.{Assignment}
-use Rattle.gq_steps.specs.declared.plan_run.Follow.{Follow}
+use Rattle.gq_plan.specs.declared.follow.Follow.{Follow}
 use Rattle.gq_steps.specs.declared.plan_run.Tried.{Tried}
 use Rattle.gq_steps.specs.declared.plan_run.Tried.TheVariants.{Past, Missed, Made}
 use Rattle.gq_steps.specs.declared.follow.Hop.{Hop}

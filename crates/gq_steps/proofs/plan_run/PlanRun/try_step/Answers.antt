@@ -12,7 +12,7 @@ use Rattle.gq_steps.specs.Moves.{run_of, IsRun, IsTried, steps_in, builds_in}
 use Rattle.gq_steps.specs.steps.Outcomes.{IsExtended, IsClosed, IsClosedAs, tested, CanJoin, IsJoined}
 use Rattle.gq_steps.specs.Follows.{CanFollow}
 use Rattle.gq_plan.specs.Rows.{as_read}
-use Rattle.gq_steps.specs.declared.plan_run.Follow.{Follow}
+use Rattle.gq_plan.specs.declared.follow.Follow.{Follow}
 use Rattle.gq_steps.specs.declared.plan_run.Tried.{Tried}
 use Rattle.gq_join.specs.Kept.{Held}
 use Rattle.gq_steps.specs.declared.plan_run.PlanRun.{PlanRun}
