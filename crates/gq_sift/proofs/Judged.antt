@@ -10,23 +10,21 @@ use Rattle.gq_plan.specs.Rows.{as_read, rel_table}
 use Rattle.gq_plan.specs.declared.assignment.Assignment.{Assignment}
 use Rattle.gq_store.specs.Neighbours.{near_rows, neighbours, numbers}
 use Rattle.gq_search.specs.Layouts.{has_one}
-use Rattle.gq_sift.specs.steps.Differing.{IsPairTest, other_of, pair_of}
+use Rattle.gq_steps.specs.Tests.{IsLoopTest, IsPairTest, IsRowTest, loop_of, other_of, pair_of, test_of}
 use Rattle.gq_steps.specs.Keeps.{IsRange, IsTriedAt}
 use Rattle.gq_sift.specs.steps.Judged.{IsJudged}
 use Rattle.gq_steps.specs.Actions.{action_of}
 use Rattle.gq_steps.specs.Levels.{Run, step_at, known}
-use Rattle.gq_sift.specs.steps.Loops.{IsLoopTest, loop_of}
 use Rattle.gq_steps.specs.Moves.{run_of, IsRun, IsHeld, IsTried}
 use Rattle.gq_steps.specs.steps.Hops.{IsHop}
 use Rattle.gq_steps.specs.steps.Outcomes.{differs_at, no_loop_at, passes_at, tested, with_number, with_row}
 use Rattle.gq_steps.specs.Follows.{CanFollow}
-use Rattle.gq_sift.specs.steps.RowTests.{Extends, IsRowTest, Leads}
-use Rattle.gq_sift.specs.Tested.{test_of}
+use Rattle.gq_sift.specs.steps.RowTests.{Extends, Leads}
 use Rattle.gq_steps.specs.declared.follow.Hop.{Hop}
 use Rattle.gq_steps.specs.declared.action.Action.{Action}
 use Rattle.gq_steps.specs.declared.action.Action.TheVariants as act
 use Rattle.gq_steps.specs.declared.group_steps.GroupSteps.{GroupSteps}
-use Rattle.gq_steps.specs.declared.plan_run.Follow.{Follow}
+use Rattle.gq_plan.specs.declared.follow.Follow.{Follow}
 use Rattle.gq_steps.specs.declared.plan_run.PlanRun.{PlanRun}
 use Rattle.gq_steps.specs.declared.plan_run.Tried.TheVariants.{Made}
 use Rattle.gq_sift.proofs.Apart.{differs_by}

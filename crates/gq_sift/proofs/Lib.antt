@@ -1,6 +1,10 @@
 pub mod Apart
 pub mod Ascending
 pub mod Closed
+pub mod Cutting
+pub mod Ended
+pub mod Extending
+pub mod First
 pub mod Judged
 pub mod Kept
 pub mod Listed
@@ -10,4 +14,6 @@ pub mod Recalled
 pub mod Refused
 pub mod Scanned
 pub mod Sifting
+pub mod Sourced
+pub mod Told
 pub mod Unlooped

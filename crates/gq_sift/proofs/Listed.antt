@@ -15,20 +15,20 @@ use Rattle.gq_plan.specs.declared.typed.RelPair.{RelPair}
 use Rattle.gq_plan.specs.declared.assignment.Assignment.{Assignment}
 use Rattle.gq_store.specs.Neighbours.{near_rows, neighbours, numbers}
 use Rattle.gq_sift.specs.steps.Candidates.{is_row, leads_to}
-use Rattle.gq_sift.specs.steps.Differing.{IsPairTest, other_of, pair_of}
+use Rattle.gq_steps.specs.Tests.{IsPairTest, RowsDecide, loop_of, other_of, pair_of, test_of}
 use Rattle.gq_sift.specs.steps.Filters.{FiltersList, is_listed_step}
 use Rattle.gq_sift.specs.steps.Numbers.{by_numbers, numbers_keep}
 use Rattle.gq_sift.specs.Tested.{AreKept, IsTested, by_rows, far_row, rows_keep}
 use Rattle.gq_steps.specs.Keeps.{makes_one, IsRange, IsSifted}
+use Rattle.gq_steps.specs.Actions.{action_of}
 use Rattle.gq_steps.specs.Levels.{Run, step_at, built_at, before, known}
-use Rattle.gq_sift.specs.steps.Loops.{loop_of}
 use Rattle.gq_steps.specs.Moves.{IsRun, IsHeld, IsTried}
 use Rattle.gq_steps.specs.steps.Outcomes.{passes_at, tested, with_number, with_row}
 use Rattle.gq_steps.specs.Follows.{CanList}
-use Rattle.gq_sift.specs.Tested.{test_of}
 use Rattle.gq_steps.specs.Tries.{tries}
+use Rattle.gq_steps.specs.declared.action.Action.TheVariants as act
 use Rattle.gq_steps.specs.declared.group_steps.GroupSteps.{GroupSteps}
-use Rattle.gq_steps.specs.declared.plan_run.Follow.{Follow}
+use Rattle.gq_plan.specs.declared.follow.Follow.{Follow}
 use Rattle.gq_sift.proofs.Judged.{IsGoingBy, all_going, apart, can_follow, differ_of, first_going, keep_of, loop_tried, next_going, next_missed, no_loop_of, pair_tried, row_tried, judged}
 use Rattle.gq_steps.proofs.Piecing.{listed_is}
 use Rattle.gq_steps.proofs.Trying.{extend_count, extend_goes}
@@ -55,6 +55,9 @@ module _ (c : Run) (run : IsRun c) (group : GroupSteps) (range : IsRange c group
 
   is : step_at c group.first ≡ Extend false f.rel f.from f.to f.direction
   is = filters.reads.extends.1 ∙ ap (λ b. Extend b f.rel f.from f.to f.direction) column
+
+  pub listed_action : action_of (step_at c group.first) ≡ act.List f
+  listed_action = ap action_of is
 
   pub can_list : CanList c.graph c.typed old f
   can_list = record {
@@ -127,6 +130,14 @@ module _ (c : Run) (run : IsRun c) (group : GroupSteps) (range : IsRange c group
       where
         left : pair_of (step_at c d) ≡ None → by_numbers c f first old d j ≡ true → is_marked after j ≡ (is_marked before j && by_numbers c f first old d j)
         left none keeps = ap (λ ms. is_marked ms j) (others none) ∙ sym (and-true (is_marked before j)) ∙ ap (λ b. is_marked before j && b) (sym keeps)
+
+  -- where rows alone decide all tests, load numbers keep each place
+  pub no_numbers : ((d : ℕ) → group.first < d → d < group.end → RowsDecide c d f) → (first : ℕ) (marks : List Bool) → AreKept (is_marked marks) (by_numbers c f first old) group.first group.end marks
+  no_numbers decide first marks = record { on = λ j m. (m, λ d above below. keeps d j (decide d above below)); off = λ j s all. s }
+    where
+      keeps : (d j : ℕ) → RowsDecide c d f → by_numbers c f first old d j ≡ true
+      keeps d j (inl test) = ap (numbers_keep c f old (first + j)) (keep_of (step_at c d) test.test test.is)
+      keeps d j (inr test) = ap (numbers_keep c f old (first + j)) (no_loop_of (step_at c d) f.rel test.is)
 
   -- ---- a place at which each step was tried
 

@@ -1,18 +1,20 @@
 -- The steps of a chain make something of a place with load numbers that nobody looked for.
 use Rattle.std.proofs.Common.{◌≡◌, ◌≢◌, inl, inr, ℕ, suc, ◌+◌, ◌<◌, ◌≤◌, Bool, true, false, Option, Some, None, List, length, refl, sym, ap, ◌∙◌, subst, arith}
-use Rattle.std.specs.Prelude.{is_some, slice_index}
-use Rattle.std.proofs.lemmas.Bool.{false≢true}
+use Rattle.std.specs.Prelude.{IfSome, slice_get, slice_index}
 use Rattle.gq_base.specs.Valid.{row_count}
 use Rattle.gq_plan.specs.Plans.{Step, Scan, Extend, Close, Join, Keep, Differ, NoLoop, Single, Meet}
 use Rattle.gq_plan.specs.Rows.{node_table, rel_table}
 use Rattle.gq_plan.specs.declared.assignment.Assignment.{Assignment}
-use Rattle.gq_sift.specs.Tested.{test_of}
-use Rattle.gq_sift.specs.steps.Chains.{Begins, BeginsBy, CanBegin, GoesOn, HasBegun, ScansNone, ScansRow, follow_of}
+use Rattle.gq_sift.specs.steps.Ends.{HasEnds, HaveEnds, ends_differ}
+use Rattle.gq_steps.specs.Tests.{GoesOn, IsEndsTest, IsRowTest, follow_of, pair_of, test_of}
+use Rattle.gq_sift.specs.steps.Chains.{Begins, BeginsBy, CanBegin, HasBegun, ScansNone, ScansRow}
 use Rattle.gq_sift.specs.declared.chain.Beginning.{Beginning}
 use Rattle.gq_sift.specs.declared.chain.Beginning.TheVariants as begin
 use Rattle.gq_sift.specs.steps.Judged.{IsJudged}
-use Rattle.gq_sift.specs.steps.RowTests.{Extends, IsRowTest}
-use Rattle.gq_sift.proofs.Judged.{extends_by, judged, keep_of}
+use Rattle.gq_sift.specs.steps.RowTests.{Extends}
+use Rattle.gq_sift.proofs.Ended.{ends_same, ends_there}
+use Rattle.gq_sift.proofs.Extending.{extend_of, extends_as}
+use Rattle.gq_sift.proofs.Judged.{differ_of, extends_by, judged, keep_of}
 use Rattle.gq_steps.specs.Follows.{CanFollow}
 use Rattle.gq_steps.specs.Keeps.{IsRange, IsTriedAt}
 use Rattle.gq_steps.specs.Actions.{action_of}
@@ -23,7 +25,7 @@ use Rattle.gq_steps.specs.declared.follow.Hop.{Hop}
 use Rattle.gq_steps.specs.declared.action.Action.{Action}
 use Rattle.gq_steps.specs.declared.action.Action.TheVariants as act
 use Rattle.gq_steps.specs.declared.group_steps.GroupSteps.{GroupSteps}
-use Rattle.gq_steps.specs.declared.plan_run.Follow.{Follow}
+use Rattle.gq_plan.specs.declared.follow.Follow.{Follow}
 use Rattle.gq_steps.specs.declared.plan_run.PlanRun.{PlanRun}
 use Rattle.gq_steps.specs.declared.plan_run.Tried.TheVariants.{Made, Past}
 use Rattle.gq_steps.specs.steps.Hops.{IsHop}
@@ -32,7 +34,7 @@ use Rattle.gq_steps.proofs.Acting.{acts}
 use Rattle.gq_steps.proofs.Going.{IsGoing, begins, ends, made_first, made_next, missed_next, past_first, past_next}
 use Rattle.gq_steps.proofs.Hopping.{hop_there}
 use Rattle.gq_steps.proofs.Stepping.{follows}
-use Rattle.gq_steps.proofs.Testing.{keep_tried}
+use Rattle.gq_steps.proofs.Testing.{differ_tried, keep_tried}
 use Rattle.gq_steps.proofs.Trying.{extend_can, extend_goes, extend_tried, scan_low, scan_tried}
 
 -- what follows a relationship is no test
@@ -47,24 +49,12 @@ follows_none (NoLoop x) f i follow is = cc follow
 follows_none (Single x from to way) f i follow is = cc follow
 follows_none (Meet x from to way) f i follow is = cc follow
 
--- the step that follows a relationship so
-abbrev with_column : Bool → Option Follow → Step
-with_column column None = Keep 0
-with_column column (Some f) = Extend column f.rel f.from f.to f.direction
+-- nor a pair, and a test is none
+pub follows_no_pair : (s : Step) (f : Follow) (p : ℕ) → follow_of s ≡ Some f → pair_of s ≡ Some p → ⊥
+follows_no_pair s f p follow is = let e = extend_of s f follow in let none : pair_of s ≡ None = ap pair_of e.1 in cc (none, is)
 
-none_some : (f : Follow) → None ≡ Some f → ⊥
-none_some f e = false≢true (ap is_some e)
-
-extend_of : (s : Step) (f : Follow) → follow_of s ≡ Some f → (column : Bool) × (s ≡ Extend column f.rel f.from f.to f.direction)
-extend_of (Extend column x from to way) f e = (column, ap (λ (o : Option Follow). with_column column o) e)
-extend_of (Scan v) f e = absurd (none_some f e)
-extend_of (Close column x from to way) f e = absurd (none_some f e)
-extend_of (Join side keys) f e = absurd (none_some f e)
-extend_of (Keep i) f e = absurd (none_some f e)
-extend_of (Differ p) f e = absurd (none_some f e)
-extend_of (NoLoop x) f e = absurd (none_some f e)
-extend_of (Single x from to way) f e = absurd (none_some f e)
-extend_of (Meet x from to way) f e = absurd (none_some f e)
+pub tests_no_pair : (s : Step) (i p : ℕ) → test_of s ≡ Some i → pair_of s ≡ Some p → ⊥
+tests_no_pair s i p test is = let none : pair_of s ≡ None = ap pair_of (keep_of s i test) in cc (none, is)
 
 -- a step that does another thing follows none so
 pub no_follow : (s : Step) → ((f : Follow) → action_of s ≡ act.List f → ⊥) → ((f : Follow) → action_of s ≡ act.Column f → ⊥) → follow_of s ≡ None
@@ -77,9 +67,6 @@ no_follow s list column = go (follow_of s) refl
     go : (o : Option Follow) → follow_of s ≡ o → follow_of s ≡ None
     go None is = is
     go (Some f) is = let e = extend_of s f is in absurd (by_column f e.0 e.1)
-
-pub extends_as : (c : Run) (d : ℕ) (f : Follow) → follow_of (step_at c d) ≡ Some f → Extends c d f
-extends_as c d f is = extend_of (step_at c d) f is
 
 -- a chain begins so, where it is told what the step does
 pub begins_by : (k : PlanRun) (d : ℕ) (a : Action) (b : Beginning) → a ≡ action_of (step_at (run_of k) d) → BeginsBy a b → Begins (run_of k) d b
@@ -247,6 +234,38 @@ module _ (c : Run) (run : IsRun c) (group : GroupSteps) (range : IsRange c group
         let missed : IsMissed c d 0 exact exact = tested_as test false is in
         told_of false exact new (sym (ap (λ (a : Assignment). a.nodes) same)) (ap (λ (a : Assignment). a.rels) same ∙ r.same) (missed_next c group range place old d exact exact r.going far below missed)
 
+    -- a pair of relationships whose ends decide whether they differ
+    apart_as : (test : IsEndsTest c group.first d) (told : Bool) → told ≡ ends_differ c.typed row test.number → IsTried c d 0 exact exact (tested 0 told)
+    apart_as test told is =
+        subst (λ b. IsTried c d 0 exact exact (tested 0 b)) (ends_same c run exact group.first d low r.going.held r.going.others_made test ∙ sym is)
+        (differ_tried c run d low exact r.going.held test.number (differ_of (step_at c d) test.number test.is) 0)
+
+    pub apart_kept : (test : IsEndsTest c group.first d) → true ≡ ends_differ c.typed row test.number → (new : Assignment) → new ≡ row → Reached (d + 1) new
+    apart_kept test is new same =
+        let made : IsMade c d 0 exact exact = apart_as test true is in
+        subst (Reached (d + 1)) (sym same) (record {
+          rels = r.rels;
+          going = subst (λ n. IsGoing c group place old n exact) next (made_next c group range place old d exact exact r.going far below made);
+          same = r.same;
+        })
+
+    pub apart_missed : (test : IsEndsTest c group.first d) → false ≡ ends_differ c.typed row test.number → (new : Assignment) → new ≡ row → IsJudged c group place old false new
+    apart_missed test is new same =
+        let missed : IsMissed c d 0 exact exact = apart_as test false is in
+        told_of false exact new (sym (ap (λ (a : Assignment). a.nodes) same)) (ap (λ (a : Assignment). a.rels) same ∙ r.same) (missed_next c group range place old d exact exact r.going far below missed)
+
+    -- load numbers have no part in it
+    as_held : (x : ℕ) → HasEnds c.typed exact x → HasEnds c.typed row x
+    as_held x h = record { rel = h.rel; source = h.source; target = h.target }
+
+    pub apart_there : GoesOn c group.first d → (p : ℕ) → pair_of (step_at c d) ≡ Some p → IfSome (slice_get c.typed.pairs p) (HaveEnds c.typed row)
+    apart_there (inl f) p is = absurd (follows_no_pair (step_at c d) f.0 p f.1 is)
+    apart_there (inr (inl test)) p is = absurd (tests_no_pair (step_at c d) test.test p test.is is)
+    apart_there (inr (inr test)) p is =
+        let same : test.number ≡ p = cc (test.is, is) in
+        subst (λ n. IfSome (slice_get c.typed.pairs n) (HaveEnds c.typed row)) same
+        (subst (λ o. IfSome o (HaveEnds c.typed row)) (sym test.there) (let both = ends_there c run exact group.first d low r.going.held r.going.others_made test in record { one = as_held test.pair.first both.one; other = as_held test.pair.second both.other }))
+
     -- what a step of a chain says, by its kind
     abbrev Follows : Bool → Assignment → Type 0
     Follows told new = (f : Follow) → follow_of (step_at c d) ≡ Some f → Reaches c.graph c.typed f 0 row told new
@@ -254,13 +273,18 @@ module _ (c : Run) (run : IsRun c) (group : GroupSteps) (range : IsRange c group
     abbrev Tests : Bool → Assignment → Type 0
     Tests told new = (i : ℕ) → test_of (step_at c d) ≡ Some i → (new ≡ row) × (told ≡ passes_at c.graph c.typed row i)
 
-    pub gone_on : GoesOn c d → (told : Bool) (new : Assignment) → Follows told new → Tests told new → told ≡ true → Reached (d + 1) new
-    gone_on (inl f) told new follows tests e = column_reached f.0 (extends_as c d f.0 f.1) new (subst (λ t. Reaches c.graph c.typed f.0 0 row t new) e (follows f.0 f.1))
-    gone_on (inr test) told new follows tests e = let t = tests test.test test.is in test_kept test (sym e ∙ t.1) new t.0
+    abbrev Pairs : Bool → Assignment → Type 0
+    Pairs told new = (p : ℕ) → pair_of (step_at c d) ≡ Some p → (new ≡ row) × (told ≡ ends_differ c.typed row p)
 
-    pub not_gone : GoesOn c d → (told : Bool) (new : Assignment) → Follows told new → Tests told new → told ≡ false → IsJudged c group place old false new
-    not_gone (inl f) told new follows tests e = column_past f.0 (extends_as c d f.0 f.1) new (subst (λ t. Reaches c.graph c.typed f.0 0 row t new) e (follows f.0 f.1))
-    not_gone (inr test) told new follows tests e = let t = tests test.test test.is in test_missed test (sym e ∙ t.1) new t.0
+    pub gone_on : GoesOn c group.first d → (told : Bool) (new : Assignment) → Follows told new → Tests told new → Pairs told new → told ≡ true → Reached (d + 1) new
+    gone_on (inl f) told new follows tests pairs e = column_reached f.0 (extends_as c d f.0 f.1) new (subst (λ t. Reaches c.graph c.typed f.0 0 row t new) e (follows f.0 f.1))
+    gone_on (inr (inl test)) told new follows tests pairs e = let t = tests test.test test.is in test_kept test (sym e ∙ t.1) new t.0
+    gone_on (inr (inr test)) told new follows tests pairs e = let t = pairs test.number test.is in apart_kept test (sym e ∙ t.1) new t.0
+
+    pub not_gone : GoesOn c group.first d → (told : Bool) (new : Assignment) → Follows told new → Tests told new → Pairs told new → told ≡ false → IsJudged c group place old false new
+    not_gone (inl f) told new follows tests pairs e = column_past f.0 (extends_as c d f.0 f.1) new (subst (λ t. Reaches c.graph c.typed f.0 0 row t new) e (follows f.0 f.1))
+    not_gone (inr (inl test)) told new follows tests pairs e = let t = tests test.test test.is in test_missed test (sym e ∙ t.1) new t.0
+    not_gone (inr (inr test)) told new follows tests pairs e = let t = pairs test.number test.is in apart_missed test (sym e ∙ t.1) new t.0
 
   pub all_reached : (d : ℕ) (row : Assignment) → Reached d row → group.end ≤ d → IsJudged c group place old true row
   all_reached d row r high = told_of true (numbered r.rels row) row refl r.same (ends c group range place old (numbered r.rels row) d r.going high)

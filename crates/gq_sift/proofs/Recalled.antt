@@ -30,7 +30,7 @@ use Rattle.gq_steps.specs.Keeps.{IsRange}
 use Rattle.gq_steps.specs.Levels.{Run, known, step_at}
 use Rattle.gq_steps.specs.Moves.{IsRun, IsHeld}
 use Rattle.gq_steps.specs.declared.group_steps.GroupSteps.{GroupSteps}
-use Rattle.gq_steps.specs.declared.plan_run.Follow.{Follow}
+use Rattle.gq_plan.specs.declared.follow.Follow.{Follow}
 use Rattle.gq_steps.specs.steps.Outcomes.{passes_at, with_row}
 use Rattle.gq_store.specs.Neighbours.{neighbours}
 

@@ -1,5 +1,5 @@
 -- A group makes nothing of a place whose relationship a condition refuses that comes before all that is no condition.
-use Rattle.std.proofs.Common.{◌≡◌, ◌≢◌, ◌⊎◌, inl, inr, ℕ, zero, suc, ◌+◌, ◌-◌, ◌^◌, ◌<◌, ◌≤◌, Bool, true, false, Option, Some, None, List, length, map, refl, sym, ap, ◌∙◌, subst, arith}
+use Rattle.std.proofs.Common.{◌≡◌, ◌≢◌, ◌⊎◌, inl, inr, ℕ, zero, suc, ◌+◌, ◌-◌, ◌^◌, ◌<◌, ◌≤◌, Bool, true, false, Option, Some, None, List, length, refl, sym, ap, ◌∙◌, subst, arith}
 use Rattle.std.specs.Prelude.{slice_get, slice_index, slice_set}
 use Rattle.std.specs.Option.{option_map}
 use Rattle.std.proofs.lemmas.Bool.{cases_eq, true≢false}
@@ -15,12 +15,11 @@ use Rattle.gq_filter.specs.declared.placed.PlacedTest.{PlacedTest}
 use Rattle.gq_plan.specs.Rows.{rel_table}
 use Rattle.gq_plan.specs.declared.assignment.Assignment.{Assignment}
 use Rattle.gq_plan.specs.declared.bound.NamedExpr.{NamedExpr}
-use Rattle.gq_base.specs.Directions.{opposite}
 use Rattle.gq_store.specs.Neighbours.{neighbours, numbers}
 use Rattle.gq_store.specs.Places.{number_at}
 use Rattle.gq_store.proofs.Reading.{neighbours_below}
 use Rattle.gq_sift.specs.Among.{IsAmong}
-use Rattle.gq_sift.specs.Tested.{test_of}
+use Rattle.gq_steps.specs.Tests.{test_of}
 use Rattle.gq_sift.specs.steps.Refused.{IsPlaceRefused, IsRefused}
 use Rattle.gq_sift.specs.steps.RowTests.{Extends}
 use Rattle.gq_sift.proofs.Judged.{IsGoingBy, can_follow, hop_going, judged, keep_of, next_going, next_missed}
@@ -30,7 +29,7 @@ use Rattle.gq_steps.specs.Moves.{IsHeld, IsRun, IsTried}
 use Rattle.gq_steps.specs.Tries.{tries}
 use Rattle.gq_steps.specs.declared.follow.Hop.{Hop}
 use Rattle.gq_steps.specs.declared.group_steps.GroupSteps.{GroupSteps}
-use Rattle.gq_steps.specs.declared.plan_run.Follow.{Follow}
+use Rattle.gq_plan.specs.declared.follow.Follow.{Follow}
 use Rattle.gq_steps.specs.steps.Outcomes.{passes_at, tested, with_number, with_row}
 use Rattle.gq_steps.proofs.Testing.{keep_tried}
 use Rattle.gq_steps.proofs.Trying.{extend_count}

@@ -11,7 +11,7 @@ use Rattle.gq_steps.specs.Keeps.{makes_one, IsRange, IsSifted, IsTriedAt}
 use Rattle.gq_steps.specs.Levels.{Run, step_at, known}
 use Rattle.gq_steps.specs.Moves.{IsRun, IsHeld, IsTried}
 use Rattle.gq_steps.specs.steps.Outcomes.{passes_at, tested, with_row}
-use Rattle.gq_sift.specs.Tested.{test_of}
+use Rattle.gq_steps.specs.Tests.{test_of}
 use Rattle.gq_steps.specs.declared.group_steps.GroupSteps.{GroupSteps}
 use Rattle.gq_steps.specs.declared.plan_run.Tried.TheVariants.{Made}
 use Rattle.gq_steps.proofs.Going.{IsGoing, begins, ends, made_first, tried_made, tried_missed}

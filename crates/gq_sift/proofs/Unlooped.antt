@@ -11,9 +11,9 @@ use Rattle.gq_plan.specs.Rows.{as_read, node_at, node_table}
 use Rattle.gq_plan.specs.steps.Rows.{node_in}
 use Rattle.gq_plan.specs.declared.assignment.Assignment.{Assignment}
 use Rattle.gq_plan.specs.declared.typed.Typed.{Typed}
-use Rattle.gq_sift.specs.steps.Loops.{IsWithinTable}
+use Rattle.gq_steps.specs.Tests.{IsWithinTable}
 use Rattle.gq_steps.specs.steps.Outcomes.{no_loop_at}
-use Rattle.gq_steps.specs.declared.plan_run.Follow.{Follow}
+use Rattle.gq_plan.specs.declared.follow.Follow.{Follow}
 use Rattle.gq_sift.proofs.Apart.{eqb-sym}
 use Rattle.gq_plan.proofs.Rows.{node_read}
 

@@ -9,7 +9,7 @@ use Rattle.gq_plan.specs.Plans.{Extend}
 use Rattle.gq_plan.specs.declared.assignment.Assignment.{Assignment}
 use Rattle.gq_sift.specs.declared.remembered.KeptPiece.{KeptPiece}
 use Rattle.gq_sift.specs.declared.remembered.Remembered.{Remembered}
-use Rattle.gq_sift.specs.Tested.{test_of}
+use Rattle.gq_steps.specs.Tests.{test_of}
 use Rattle.gq_sift.specs.Tested.{IsTested}
 use Rattle.gq_steps.specs.Levels.{Run, known, step_at}
 use Rattle.gq_steps.specs.Moves.{IsHeld}

@@ -1,5 +1,5 @@
 -- Places of a list that those of a group's steps keep which rows decide.
-use Rattle.std.specs.Prelude.{◌≡◌, ℕ, ◌+◌, ◌<◌, ◌==◌, Bool, true, not, nat_lt, Option, Some, None, List, length, slice_get, slice_index, slice_set}
+use Rattle.std.specs.Prelude.{◌≡◌, ℕ, ◌+◌, ◌<◌, ◌==◌, Bool, true, not, nat_lt, List, length, slice_get, slice_index, slice_set}
 use Rattle.gq_bits.specs.Places.{is_marked}
 use Rattle.gq_bits.specs.declared.TheConstants.{VECTOR}
 use Rattle.gq_plan.specs.Conditions.{passes}
@@ -9,13 +9,8 @@ use Rattle.gq_plan.specs.Rows.{as_read, rel_table}
 use Rattle.gq_plan.specs.declared.assignment.Assignment.{Assignment}
 use Rattle.gq_steps.specs.Levels.{Run, step_at}
 use Rattle.gq_steps.specs.declared.group_steps.GroupSteps.{GroupSteps}
-use Rattle.gq_steps.specs.declared.plan_run.Follow.{Follow}
+use Rattle.gq_plan.specs.declared.follow.Follow.{Follow}
 use Rattle.gq_store.specs.Neighbours.{neighbours}
-
--- the test that a step asks for, if it is one
-abbrev pub test_of : Step → Option ℕ
-test_of (Keep i) = Some i
-test_of s = None
 
 -- the row at a place of the list that is followed
 abbrev pub far_row : Run → Follow → Assignment → ℕ → ℕ

@@ -1,9 +1,9 @@
 pub mod Candidates
 pub mod Chains
 pub mod Differing
+pub mod Ends
 pub mod Filters
 pub mod Judged
-pub mod Loops
 pub mod Numbers
 pub mod Refused
 pub mod RowTests

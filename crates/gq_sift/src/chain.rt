@@ -1,8 +1,10 @@
 //! Groups that follow a chain of columns by rows alone: no load number is looked for on the way.
 ghost use Rattle.std.specs.Prelude.{◌≡◌, ◌<◌, ℕ, IfSome, Some, length, true};
-ghost use Rattle.gq_sift.specs.Tested.{test_of};
+ghost use Rattle.std.specs.Prelude.{slice_get};
+ghost use Rattle.gq_steps.specs.Tests.{GoesOn, follow_of, pair_of, test_of};
 ghost use Rattle.gq_sift.specs.declared.chain.Beginning.TheVariants as Begin;
-ghost use Rattle.gq_sift.specs.steps.Chains.{BeginsBy, CanBegin, GoesOn, HasBegun, IsChain, follow_of};
+ghost use Rattle.gq_sift.specs.steps.Chains.{BeginsBy, CanBegin, HasBegun, IsChain};
+ghost use Rattle.gq_sift.specs.steps.Ends.{HaveEnds, ends_differ};
 ghost use Rattle.gq_sift.specs.steps.Judged.{IsJudged};
 ghost use Rattle.gq_steps.specs.Follows.{CanFollow};
 ghost use Rattle.gq_steps.specs.Keeps.{IsRange};
@@ -10,14 +12,16 @@ ghost use Rattle.gq_steps.specs.Levels.{known, step_at};
 ghost use Rattle.gq_steps.specs.Matches.{AreMatches};
 ghost use Rattle.gq_steps.specs.Moves.{IsHeld, IsRun, run_of, steps_in};
 ghost use Rattle.gq_steps.specs.Reaching.{Reaches};
-ghost use Rattle.gq_steps.specs.declared.plan_run.Follow.{Follow};
+ghost use Rattle.gq_plan.specs.declared.follow.Follow.{Follow};
 ghost use Rattle.gq_steps.specs.steps.Outcomes.{passes_at};
 
+use crate::differing::pair_at;
+use crate::ends::{ends_differ, is_ends_test};
 use crate::filtering::scanned;
-use crate::judging::{extended, is_row_test, test_at};
 use crate::places::keep_place;
-use gq_plan::Assignment;
-use gq_steps::{Action, Follow, GroupSteps, PlanRun};
+use crate::row_tests::{extended, is_row_test, test_at};
+use gq_plan::{Assignment, Follow};
+use gq_steps::{Action, Cut, GroupSteps, PlanRun};
 
 /// How a chain begins: with the rows of a node variable, or with a list that is followed.
 #[derive(Clone, Copy)]
@@ -26,20 +30,15 @@ pub(crate) enum Beginning {
     List(Follow),
 }
 
-/// How a group begins, if rows alone say what its steps make: the others follow columns to nodes that
-/// were not bound, or are conditions that rows alone decide.
-pub(crate) fn chain_of(plan_run: &PlanRun<'_>, group: GroupSteps) -> Option<Beginning>
-    requires run { IsRun (run_of plan_run.now) }
-    requires steps { IsRange (run_of plan_run.now) group }
-    ensures { IfSome result (IsChain (run_of plan_run.now) group) }
+/// How a group begins that is a chain: rows alone say what its steps make.
+pub(crate) fn chain_of(group: GroupSteps) -> Option<Beginning>
+    ensures { IfSome result (λ beginning. (group.cut ≡ Cut.Chain)
+        × BeginsBy group.action beginning) }
 {
-    let beginning = begins(group.action)?;
-    for depth in group.first + 1..group.end {
-        if !goes_on(plan_run, depth) {
-            return None;
-        }
+    match group.cut {
+        Cut::Chain => begins(group.action),
+        _ => None,
     }
-    Some(beginning)
 }
 
 // How a chain begins, if one may.
@@ -55,20 +54,22 @@ fn begins(action: Action) -> Option<Beginning>
     }
 }
 
-// Whether a chain goes on with the step at a depth.
-fn goes_on(plan_run: &PlanRun<'_>, depth: usize) -> bool
+/// Whether a chain goes on with the step at a depth, behind the first one of its group: it follows a
+/// relationship to a node that was not bound, or is a test that rows alone decide.
+pub(crate) fn goes_on(plan_run: &PlanRun<'_>, first: usize, depth: usize) -> bool
     requires run { IsRun (run_of plan_run.now) }
     requires depth { depth < length (steps_in plan_run.now) }
-    ensures { result ≡ true → GoesOn (run_of plan_run.now) depth }
+    requires above { first < depth }
+    ensures { result ≡ true → GoesOn (run_of plan_run.now) first depth }
 {
     match follow_at(plan_run, depth) {
         Some(_follow) => true,
-        None => is_row_test(plan_run, depth),
+        None => is_row_test(plan_run, depth) || is_ends_test(plan_run, first, depth),
     }
 }
 
-// How the step at a depth follows a relationship to a node that was not bound, if it does.
-fn follow_at(plan_run: &PlanRun<'_>, depth: usize) -> Option<Follow>
+/// How the step at a depth follows a relationship to a node that was not bound, if it does.
+pub(crate) fn follow_at(plan_run: &PlanRun<'_>, depth: usize) -> Option<Follow>
     requires { depth < length (steps_in plan_run.now) }
     ensures { result ≡ follow_of (step_at (run_of plan_run.now) depth) }
 {
@@ -159,17 +160,24 @@ fn go_on(plan_run: &PlanRun<'_>, depth: usize, row: &mut Assignment) -> bool
     requires depth { depth < length (steps_in plan_run.now) }
     requires can { (f : Follow) → follow_of (step_at (run_of plan_run.now) depth) ≡ Some f →
         CanFollow plan_run.now.graph.now plan_run.now.typed.now row.old f }
+    requires ends { (p : ℕ) → pair_of (step_at (run_of plan_run.now) depth) ≡ Some p → IfSome
+        (slice_get plan_run.now.typed.now.pairs p) (HaveEnds plan_run.now.typed.now row.old) }
     ensures follows { (f : Follow) → follow_of (step_at (run_of plan_run.now) depth) ≡ Some f →
         Reaches plan_run.now.graph.now plan_run.now.typed.now f 0 row.old result row.new }
     ensures tests { (i : ℕ) → test_of (step_at (run_of plan_run.now) depth) ≡ Some i →
         (row.new ≡ row.old) × (result ≡ passes_at plan_run.now.graph.now plan_run.now.typed.now
         row.old i) }
+    ensures pairs { (p : ℕ) → pair_of (step_at (run_of plan_run.now) depth) ≡ Some p →
+        (row.new ≡ row.old) × (result ≡ ends_differ plan_run.now.typed.now row.old p) }
 {
     match follow_at(plan_run, depth) {
         Some(follow) => plan_run.reach(follow, 0, row),
         None => match test_at(plan_run, depth) {
             Some(test) => plan_run.keep(test, row),
-            None => false,
+            None => match pair_at(plan_run, depth) {
+                Some(pair) => ends_differ(plan_run, pair, row),
+                None => false,
+            },
         },
     }
 }

@@ -5,15 +5,15 @@ ghost use Rattle.gq_bits.specs.Places.{is_marked};
 ghost use Rattle.gq_plan.specs.Rows.{rel_table};
 ghost use Rattle.gq_store.specs.Neighbours.{neighbours, numbers};
 ghost use Rattle.gq_sift.specs.steps.Candidates.{leads_to};
-ghost use Rattle.gq_sift.specs.steps.Differing.{IsPairTest, IsPairWith, other_of, pair_of};
+ghost use Rattle.gq_steps.specs.Tests.{IsPairTest, IsPairWith, other_of, pair_of};
 ghost use Rattle.gq_steps.specs.Levels.{step_at};
 ghost use Rattle.gq_steps.specs.Moves.{run_of, steps_in};
 ghost use Rattle.gq_steps.specs.Follows.{CanFollow};
 
 use crate::finding::{ListPart, place_of_number};
 use gq_bits::{Marks, VECTOR};
-use gq_plan::{Assignment, RelPair};
-use gq_steps::{Action, Follow, PlanRun};
+use gq_plan::{Assignment, Follow, RelPair};
+use gq_steps::{Action, PlanRun};
 
 /// The pair that the step at a depth asks to differ, if it asks for one.
 pub(crate) fn pair_at(plan_run: &PlanRun<'_>, depth: usize) -> Option<u32>
@@ -58,8 +58,8 @@ fn is_pair_with(plan_run: &PlanRun<'_>, pair: RelPair, rel: u32) -> bool
     }
 }
 
-// The table of a relationship variable.
-fn rel_table(plan_run: &PlanRun<'_>, rel: u32) -> Option<u32>
+/// The table of a relationship variable.
+pub(crate) fn rel_table(plan_run: &PlanRun<'_>, rel: u32) -> Option<u32>
     ensures { IfSome result (λ table. (rel < length plan_run.now.typed.now.rels) × (rel_table
         plan_run.now.typed.now rel ≡ table)) }
 {

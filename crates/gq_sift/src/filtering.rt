@@ -9,25 +9,22 @@ ghost use Rattle.gq_steps.specs.Keeps.{IsRange, IsSifted};
 ghost use Rattle.gq_steps.specs.Levels.{known, step_at};
 ghost use Rattle.gq_steps.specs.Moves.{run_of, steps_in, IsRun, IsHeld};
 ghost use Rattle.gq_steps.specs.steps.Outcomes.{passes_at, with_row};
-ghost use Rattle.gq_sift.specs.Tested.{test_of};
+ghost use Rattle.gq_steps.specs.Tests.{test_of};
 
-use crate::judging::test_at;
+use crate::row_tests::test_at;
 use gq_bits::{Marks, VECTOR};
 use gq_filter::Rows;
 use gq_plan::Assignment;
-use gq_steps::{Action, GroupSteps, PlanRun};
+use gq_steps::{Action, Cut, GroupSteps, PlanRun};
 
 /// The node variable that a group scans, where its other steps are conditions.
-pub(crate) fn filters(plan_run: &PlanRun<'_>, group: GroupSteps) -> Option<u32>
-    requires run { IsRun (run_of plan_run.now) }
-    requires steps { IsRange (run_of plan_run.now) group }
-    ensures { IfSome result (Filters (run_of plan_run.now) group) }
+pub(crate) fn filters(group: GroupSteps) -> Option<u32>
+    ensures { IfSome result (λ node. (group.cut ≡ Cut.Rows) × (group.action ≡ Action.Scan node)) }
 {
-    let node = scanned(group.action)?;
-    for depth in group.first + 1..group.end {
-        let _test = test_at(plan_run, depth)?;
+    match group.cut {
+        Cut::Rows => scanned(group.action),
+        _ => None,
     }
-    Some(node)
 }
 
 /// The node variable that is scanned, if one is.
@@ -73,9 +70,9 @@ pub(crate) fn filter(
     let _whole = marks.word(0);
 }
 
-/// Keeps the marked places at whose row the condition is true that the step at a depth asks for:
-/// a node variable has that row.
-pub(crate) fn keep_rows(
+// Keeps the marked places at whose row the condition is true that the step at a depth asks for: a
+// node variable has that row.
+fn keep_rows(
     plan_run: &mut PlanRun<'_>,
     depth: usize,
     node: u32,
@@ -96,9 +93,31 @@ pub(crate) fn keep_rows(
 {
     match test_at(plan_run, depth) {
         None => {}
-        Some(test) => match plan_run.tests.get_mut(test as usize) {
-            None => *marks = Marks::none(),
-            Some(test) => test.keep_rows(node, rows, row, marks),
-        },
+        Some(test) => keep_test(plan_run, test, node, rows, row, marks),
+    }
+}
+
+/// The same of a test of the alternative.
+pub(crate) fn keep_test(
+    plan_run: &mut PlanRun<'_>,
+    test: u32,
+    node: u32,
+    rows: Rows<'_>,
+    row: &mut Assignment,
+    marks: &mut Marks,
+)
+    requires run { IsRun (run_of plan_run.old) }
+    requires node { node < length row.old.nodes }
+    requires few { count_in rows ≤ VECTOR }
+    requires within { (j : ℕ) → count_in rows ≤ j → is_marked marks.old j ≡ false }
+    ensures kept { (j : ℕ) → is_marked marks.new j ≡ (is_marked marks.old j
+        && passes_at plan_run.old.graph.now plan_run.old.typed.now
+        (with_row node (row_in rows.entry j) row.old) test) }
+    ensures row { row.new ≡ row.old }
+    ensures same { plan_run.new ≡ plan_run.old }
+{
+    match plan_run.tests.get_mut(test as usize) {
+        None => *marks = Marks::none(),
+        Some(test) => test.keep_rows(node, rows, row, marks),
     }
 }

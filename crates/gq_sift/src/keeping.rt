@@ -10,8 +10,9 @@ ghost use Rattle.gq_steps.specs.Tries.{tries};
 use crate::chain::{chain_of, judge_place};
 use crate::closing::candidates;
 use crate::filtering::{filter, filters};
-use crate::listing::{filter_list, filters_list};
+use crate::lists::{filter_list, filters_list};
 use crate::refusing::refuse;
+use crate::telling::keep_told;
 use gq_bits::{Marks, VECTOR};
 use gq_plan::Assignment;
 use gq_steps::{GroupSteps, PlanRun};
@@ -38,9 +39,9 @@ pub fn sift(
     ensures sifted { IsSifted (run_of plan_run.old) group first count row.old row.new marks.new }
     ensures same { plan_run.new ≡ plan_run.old }
 {
-    match filters(plan_run, group) {
+    match filters(group) {
         Some(node) => filter(plan_run, group, node, first, count, row, marks),
-        None => match filters_list(plan_run, group, group.action) {
+        None => match filters_list(group) {
             Some(follow) => filter_list(plan_run, group, follow, first, count, row, marks),
             None => sift_each(plan_run, group, matches, first, count, row, marks),
         },
@@ -67,6 +68,9 @@ fn sift_each(
         (built_at c group.first) (step_at c group.first) (before c row.old group.first)) }
     ensures { IsSifted (run_of plan_run.now) group first count row.old row.new marks.new }
 {
+    if keep_told(plan_run, group, first, count, row, marks) {
+        return;
+    }
     *marks = candidates(plan_run, group, first, count, row);
     refuse(plan_run, group, first, count, row, marks);
     sift_among(plan_run, group, matches, first, count, row, marks);
@@ -92,7 +96,7 @@ pub fn sift_among(
     requires among { IsAmong (run_of plan_run.now) group first count row.old marks.old }
     ensures { IsSifted (run_of plan_run.now) group first count row.old row.new marks.new }
 {
-    let chain = chain_of(plan_run, group);
+    let chain = chain_of(group);
     let mut place = 0;
     'places: while let Some(offset) = marks.next_from(place) {
         if !judge_place(plan_run, group, chain, matches, first + offset, row) {

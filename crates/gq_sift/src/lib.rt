@@ -5,18 +5,22 @@
 
 mod chain;
 mod closing;
+mod cuts;
 mod differing;
+mod ends;
 mod filtering;
 mod finding;
-mod judging;
 mod keeping;
-mod listing;
+mod lists;
 mod looping;
 mod places;
 mod reading;
 mod refusing;
 mod remembered;
+mod row_tests;
+mod telling;
 
+pub use cuts::cut_of;
 pub use keeping::{sift, sift_among};
 pub use places::keep_place;
 pub use remembered::{Remembered, sift_remembered};

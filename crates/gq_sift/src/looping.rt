@@ -4,16 +4,16 @@ ghost use Rattle.std.specs.Prelude.{slice_index};
 ghost use Rattle.gq_bits.specs.Places.{is_marked};
 ghost use Rattle.gq_plan.specs.Rows.{node_table};
 ghost use Rattle.gq_steps.specs.Levels.{step_at};
-ghost use Rattle.gq_sift.specs.steps.Loops.{IsLoopTest, IsWithinTable, loop_of};
+ghost use Rattle.gq_steps.specs.Tests.{IsLoopTest, IsWithinTable, loop_of};
 ghost use Rattle.gq_steps.specs.Moves.{run_of, steps_in};
 
 use gq_bits::{Marks, VECTOR};
 use gq_lanes::keep_equal_id;
-use gq_plan::TypedRel;
-use gq_steps::{Action, Follow, PlanRun};
+use gq_plan::{Follow, TypedRel};
+use gq_steps::{Action, PlanRun};
 
-/// The relationship variable that the step at a depth asks to be no loop, if it asks for one.
-pub(crate) fn loop_at(plan_run: &PlanRun<'_>, depth: usize) -> Option<u32>
+// The relationship variable that the step at a depth asks to be no loop, if it asks for one.
+fn loop_at(plan_run: &PlanRun<'_>, depth: usize) -> Option<u32>
     requires { depth < length (steps_in plan_run.now) }
     ensures { result ≡ loop_of (step_at (run_of plan_run.now) depth) }
 {

@@ -5,14 +5,14 @@ ghost use Rattle.gq_plan.specs.Known.{known_of, set_of};
 ghost use Rattle.gq_plan.specs.Meaning.{holds};
 ghost use Rattle.gq_sift.specs.Remembered.{TestsRead};
 ghost use Rattle.gq_sift.specs.steps.Filters.{IsWithin};
-ghost use Rattle.gq_sift.specs.Tested.{test_of};
+ghost use Rattle.gq_steps.specs.Tests.{test_of};
 ghost use Rattle.gq_steps.specs.Levels.{step_at};
 ghost use Rattle.gq_steps.specs.Moves.{run_of, steps_in};
 
-use crate::judging::test_at;
+use crate::row_tests::test_at;
 use gq_join::Sealed;
-use gq_plan::{Known, Step};
-use gq_steps::{Follow, GroupSteps, PlanRun};
+use gq_plan::{Follow, Known, Step};
+use gq_steps::{GroupSteps, PlanRun};
 
 // The most node variables of a query.
 const NODES: u32 = 24;

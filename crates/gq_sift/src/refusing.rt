@@ -1,11 +1,11 @@
 //! The places of a list that conditions on its relationships refuse, told by where these stand: no row
 //! is read for them, and no load number.
-ghost use Rattle.std.specs.Prelude.{◌≡◌, ◌+◌, ◌<◌, ◌≤◌, ◌^◌, ℕ, length, false, true, slice_index};
+ghost use Rattle.std.specs.Prelude.{◌≡◌, ◌+◌, ◌<◌, ◌≤◌, ◌^◌, ℕ, length, false, true, slice_index, IfSome};
 ghost use Rattle.gq_bits.specs.Places.{is_marked};
 ghost use Rattle.gq_plan.specs.Rows.{rel_table};
 ghost use Rattle.gq_sift.specs.Among.{IsAmong};
 ghost use Rattle.gq_sift.specs.steps.Refused.{IsPlaceRefused, IsRefused};
-ghost use Rattle.gq_sift.specs.steps.RowTests.{Extends};
+ghost use Rattle.gq_sift.specs.steps.RowTests.{Extends, Leads};
 ghost use Rattle.gq_steps.specs.Follows.{CanFollow};
 ghost use Rattle.gq_steps.specs.Keeps.{IsRange};
 ghost use Rattle.gq_steps.specs.Levels.{before, built_at, known, step_at};
@@ -14,11 +14,11 @@ ghost use Rattle.gq_steps.specs.Tries.{tries};
 ghost use Rattle.gq_store.specs.Neighbours.{near_rows, neighbours};
 
 use crate::finding::ListPart;
-use crate::judging::{extended, test_at};
+use crate::row_tests::{extended, test_at};
 use gq_bits::{Marks, VECTOR};
 use gq_filter::PlacedTest;
-use gq_plan::Assignment;
-use gq_steps::{Follow, GroupSteps, PlanRun};
+use gq_plan::{Assignment, Follow};
+use gq_steps::{Cut, GroupSteps, PlanRun};
 use gq_store::Graph;
 
 /// Of marked places of a part of a group's list, among which are all that its steps keep, drops those
@@ -41,9 +41,20 @@ pub(crate) fn refuse(
     requires among { IsAmong (run_of plan_run.now) group first count row.now marks.old }
     ensures { IsAmong (run_of plan_run.now) group first count row.now marks.new }
 {
-    match extended(group.action) {
+    match refuses(group) {
         None => {}
         Some(follow) => refuse_list(plan_run, group, follow, first, count, row, marks),
+    }
+}
+
+// How a group follows a list of whose places some may be refused.
+fn refuses(group: GroupSteps) -> Option<Follow>
+    ensures { IfSome result (Leads group.action) }
+{
+    match group.cut {
+        Cut::Told => extended(group.action),
+        Cut::Refused => extended(group.action),
+        _ => None,
     }
 }
 

@@ -7,7 +7,7 @@ ghost use Rattle.gq_plan.specs.Rows.{rel_table};
 ghost use Rattle.gq_sift.specs.Remembered.{Gives, HasMarks, IsRemembered, StandsAt, TakesPiece};
 ghost use Rattle.gq_sift.specs.steps.Filters.{FiltersList};
 ghost use Rattle.gq_sift.specs.Tested.{IsTested};
-ghost use Rattle.gq_steps.specs.Keeps.{IsRange, IsSifted};
+ghost use Rattle.gq_steps.specs.Keeps.{IsRange, IsSifted, IsTold};
 ghost use Rattle.gq_steps.specs.Levels.{before, built_at, known, step_at};
 ghost use Rattle.gq_steps.specs.Matches.{AreMatches};
 ghost use Rattle.gq_steps.specs.Moves.{run_of, IsRun, IsHeld};
@@ -15,12 +15,12 @@ ghost use Rattle.gq_steps.specs.Tries.{tries};
 ghost use Rattle.gq_store.specs.Neighbours.{neighbours};
 
 use crate::keeping::sift;
-use crate::listing::{drop_pairs, filters_list, test_list};
+use crate::lists::{drop_pairs, filters_list, test_list};
 use crate::reading::{binds_some, has_test, longest, read_by, reads_alone};
 use gq_base::Memory;
 use gq_bits::{Marks, VECTOR};
-use gq_plan::{Assignment, Known};
-use gq_steps::{Follow, GroupSteps, PlanRun};
+use gq_plan::{Assignment, Follow, Known};
+use gq_steps::{GroupSteps, PlanRun};
 use std::alloc::Global;
 
 // So many pieces of a list are remembered, at most.
@@ -59,14 +59,11 @@ impl Remembered {
         before: GroupSteps,
         group: GroupSteps,
     ) -> Option<Remembered>
-        requires { IsRun (run_of plan_run.now) }
+        requires run { IsRun (run_of plan_run.now) }
+        requires steps { IsTold (run_of plan_run.now) group }
         ensures { IfSome result (IsRemembered (run_of plan_run.now) group) }
     {
-        if group.first >= group.end || group.end > plan_run.steps.len() {
-            return None;
-        }
-        let action = plan_run.action(group.first);
-        let follow = filters_list(plan_run, group, action)?;
+        let follow = filters_list(group)?;
         let reads = read_by(plan_run, group, follow);
         if !has_test(plan_run, group) || binds_some(plan_run, before, reads) {
             return None;
@@ -236,7 +233,7 @@ pub fn sift_remembered(
     ensures same { plan_run.new ≡ plan_run.old }
 {
     let first = piece * VECTOR;
-    match filters_list(plan_run, group, group.action) {
+    match filters_list(group) {
         None => sift(plan_run, group, matches, first, count, row, marks),
         Some(follow) => {
             recall(

@@ -1,25 +1,19 @@
--- Groups whose steps rows alone decide: they follow columns, or are conditions.
-use Rattle.std.specs.Prelude.{◌≡◌, ◌⊎◌, ℕ, ◌+◌, ◌^◌, ◌<◌, ◌≤◌, MatchBool, Bool, Option, Some, None, length, slice_set}
+-- Groups whose steps rows alone decide: they follow columns, or are tests.
+use Rattle.std.specs.Prelude.{◌≡◌, ℕ, ◌+◌, ◌^◌, ◌<◌, ◌≤◌, MatchBool, Bool, length, slice_set}
 use Rattle.gq_base.specs.Valid.{row_count}
-use Rattle.gq_plan.specs.Plans.{Step, Extend}
 use Rattle.gq_plan.specs.Rows.{node_table}
 use Rattle.gq_plan.specs.declared.assignment.Assignment.{Assignment}
 use Rattle.gq_sift.specs.declared.chain.Beginning.{Beginning}
 use Rattle.gq_sift.specs.declared.chain.Beginning.TheVariants as begin
 use Rattle.gq_sift.specs.steps.Filters.{Scans}
-use Rattle.gq_sift.specs.steps.RowTests.{Extends, IsRowTest, Leads}
+use Rattle.gq_steps.specs.Tests.{GoesOn}
+use Rattle.gq_sift.specs.steps.RowTests.{Extends, Leads}
 use Rattle.gq_steps.specs.Follows.{CanFollow}
-use Rattle.gq_steps.specs.Levels.{Run, step_at}
+use Rattle.gq_steps.specs.Levels.{Run}
 use Rattle.gq_steps.specs.Reaching.{Reaches}
 use Rattle.gq_steps.specs.declared.action.Action.{Action}
 use Rattle.gq_steps.specs.declared.action.Action.TheVariants as act
 use Rattle.gq_steps.specs.declared.group_steps.GroupSteps.{GroupSteps}
-use Rattle.gq_steps.specs.declared.plan_run.Follow.{Follow}
-
--- how a step follows a relationship to a node that was not bound, if it does
-abbrev pub follow_of : Step → Option Follow
-follow_of (Extend column x from to direction) = Some (record { rel = x; from = from; to = to; direction = direction })
-follow_of s = None
 
 -- the step at a depth scans a node variable, or follows a relationship so
 abbrev pub Begins : Run → ℕ → Beginning → Type 0
@@ -31,13 +25,10 @@ abbrev pub BeginsBy : Action → Beginning → Type 0
 BeginsBy a (begin.Rows v) = a ≡ act.Scan v
 BeginsBy a (begin.List f) = Leads a f
 
--- it follows a relationship so, or is a test that rows alone decide
-abbrev pub GoesOn : Run → ℕ → Type 0
-GoesOn c d = ((f : Follow) × (follow_of (step_at c d) ≡ Some f)) ⊎ IsRowTest c d
-
+-- a group begins so, and its other steps go on by rows alone
 pub record IsChain (c : Run) (group : GroupSteps) (beginning : Beginning) : Type 0 where
   pub begins : Begins c group.first beginning
-  pub goes_on : (d : ℕ) → group.first < d → d < group.end → GoesOn c d
+  pub goes_on : (d : ℕ) → group.first < d → d < group.end → GoesOn c group.first d
 
 -- a chain can begin so with what an assignment has
 pub record CanScan (c : Run) (old : Assignment) (v : ℕ) : Type 0 where

@@ -3,9 +3,9 @@ use Rattle.std.specs.Prelude.{◌≡◌, ℕ, ◌<◌, ◌≤◌, Bool, true, fa
 use Rattle.gq_plan.specs.Plans.{Step, Scan, Extend}
 use Rattle.gq_steps.specs.Levels.{Run, step_at}
 use Rattle.gq_sift.specs.steps.RowTests.{ReadsRows}
-use Rattle.gq_sift.specs.Tested.{test_of}
+use Rattle.gq_steps.specs.Tests.{test_of}
 use Rattle.gq_steps.specs.declared.group_steps.GroupSteps.{GroupSteps}
-use Rattle.gq_steps.specs.declared.plan_run.Follow.{Follow}
+use Rattle.gq_plan.specs.declared.follow.Follow.{Follow}
 
 -- a group has a step, and its steps are steps of the plan
 pub record IsWithin (c : Run) (group : GroupSteps) : Type 0 where

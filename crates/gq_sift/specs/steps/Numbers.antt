@@ -5,9 +5,9 @@ use Rattle.gq_plan.specs.Plans.{Step, Differ}
 use Rattle.gq_plan.specs.Rows.{rel_table}
 use Rattle.gq_plan.specs.declared.assignment.Assignment.{Assignment}
 use Rattle.gq_sift.specs.steps.Candidates.{leads_to}
-use Rattle.gq_sift.specs.steps.Differing.{other_of}
+use Rattle.gq_steps.specs.Tests.{other_of}
 use Rattle.gq_steps.specs.Levels.{Run, step_at}
-use Rattle.gq_steps.specs.declared.plan_run.Follow.{Follow}
+use Rattle.gq_plan.specs.declared.follow.Follow.{Follow}
 use Rattle.gq_store.specs.Neighbours.{numbers}
 
 -- a step keeps a place by the load number there: it is not that of the other relationship of a pair

@@ -2,7 +2,7 @@ use Rattle.std.proofs.Common.{◌∙◌, sym, ap}
 use Rattle.gq_steps.specs.Levels.{step_at}
 use Rattle.gq_steps.specs.Moves.{run_of}
 use Rattle.gq_steps.specs.declared.action.Action.TheVariants as act
-use Rattle.gq_sift.specs.steps.Chains.{follow_of}
+use Rattle.gq_steps.specs.Tests.{follow_of}
 use Rattle.gq_steps.proofs.Acting.{acts}
 use Rattle.gq_sift.proofs.Reached.{no_follow}
 use Rattle.gq_sift.proofs.chain.follow_at.Goals as goal

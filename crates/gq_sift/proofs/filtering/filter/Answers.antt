@@ -7,7 +7,7 @@ use Rattle.gq_steps.specs.Moves.{IsRun, run_of, steps_in}
 use Rattle.gq_steps.specs.declared.plan_run.PlanRun.{PlanRun}
 use Rattle.gq_steps.proofs.Trying.{as_many_steps}
 use Rattle.gq_steps.specs.steps.Outcomes.{passes_at, with_row}
-use Rattle.gq_sift.specs.Tested.{test_of}
+use Rattle.gq_steps.specs.Tests.{test_of}
 use Rattle.gq_sift.proofs.Scanned.{filtering_from, filtering_next, filtering_node, filtering_within, filtered}
 use Rattle.gq_sift.proofs.filtering.filter.Goals as goal
 

@@ -3,6 +3,7 @@ use Rattle.std.specs.Prelude.{slice_set, MatchOption}
 use Rattle.gq_bits.specs.Places.{is_marked}
 use Rattle.gq_sift.specs.steps.Judged.{IsJudged}
 use Rattle.gq_steps.specs.Moves.{run_of}
+use Rattle.gq_sift.proofs.Cutting.{chain_by, range_told}
 use Rattle.gq_sift.proofs.Matching.{same_matches}
 use Rattle.gq_sift.proofs.Sifting.{IsSifting, sifting_from, sifting_kept, sifting_dropped, sifting_passed, sifted}
 use Rattle.gq_sift.proofs.keeping.sift_among.Goals as goal
@@ -23,7 +24,7 @@ here : (c : In-Some) → IsSifting (run_of c.args.plan_run.now) c.args.group c.a
 here c = sifting_passed (run_of c.args.plan_run.now) c.args.group c.args.first c.args.count c.args.row.now c.places.place c.in-Some.offset c.places.row c.places.marks c.places.invariant (found c).0 (λ j above below. c.in-Some.ensures.least j above below)
 
 pub judge_place-requires-clause-chain : goal.judge_place-requires-clause-chain
-judge_place-requires-clause-chain c = c.chain_of-chain.ensures
+judge_place-requires-clause-chain c = chain_by c.args.plan_run.now c.args.group (range_told (run_of c.args.plan_run.now) c.args.group c.requires.steps) c.chain_of-chain.result c.chain_of-chain.ensures
 
 pub judge_place-requires-clause-held : goal.judge_place-requires-clause-held
 judge_place-requires-clause-held c = c.places.invariant.held

@@ -2,7 +2,7 @@ use Rattle.std.proofs.Common.{◌∙◌, sym, ap}
 use Rattle.gq_steps.specs.Levels.{step_at}
 use Rattle.gq_steps.specs.Moves.{run_of}
 use Rattle.gq_steps.specs.declared.action.Action.TheVariants as act
-use Rattle.gq_sift.specs.steps.Loops.{loop_of}
+use Rattle.gq_steps.specs.Tests.{loop_of}
 use Rattle.gq_steps.proofs.Acting.{acts}
 use Rattle.gq_sift.proofs.Judged.{no_loop}
 use Rattle.gq_sift.proofs.looping.loop_at.Goals as goal

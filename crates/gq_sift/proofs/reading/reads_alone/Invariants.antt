@@ -3,7 +3,7 @@ use Rattle.std.specs.Prelude.{slice_get}
 use Rattle.gq_plan.specs.Covers.{test_bound}
 use Rattle.gq_plan.specs.Known.{known_of}
 use Rattle.gq_plan.specs.Meaning.{holds}
-use Rattle.gq_sift.specs.Tested.{test_of}
+use Rattle.gq_steps.specs.Tests.{test_of}
 use Rattle.gq_steps.specs.Levels.{step_at}
 use Rattle.gq_steps.specs.Moves.{run_of}
 use Rattle.gq_sift.proofs.reading.reads_alone.Given as goal

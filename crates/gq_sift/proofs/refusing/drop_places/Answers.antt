@@ -1,4 +1,4 @@
-use Rattle.std.proofs.Common.{◌≡◌, ◌+◌, ◌<◌, ◌∙◌, ℕ, sym, subst, arith}
+use Rattle.std.proofs.Common.{◌+◌, ◌<◌, ◌∙◌, sym, subst, arith}
 use Rattle.gq_bits.specs.declared.TheConstants.{VECTOR}
 use Rattle.gq_sift.proofs.Refused.{IsDropping, dropping_from, dropping_one, place_refused}
 use Rattle.gq_sift.proofs.refusing.drop_places.Goals as goal
@@ -22,7 +22,7 @@ places-preserved c =
       | then-not-may_pass w ↦
           subst (IsDropping c.args.graph.now c.args.part.table c.args.part.direction c.args.part.row c.args.test c.args.part.low c.args.marks.now) (sym (w.marks-is ∙ w.set.ensures.written))
           (dropping_one c.args.graph.now c.args.part.table c.args.part.direction c.args.part.row c.args.test c.args.part.low c.args.marks.now c.in-Some.offset c.places.marks c.places.invariant (inside (goal.at.places-preserved c).In-Some).0
-          (place_refused c.args.graph.now c.args.part.table c.args.part.direction c.args.part.row c.args.test (c.args.part.low + c.in-Some.offset) c.edge_place-edge.result c.edge_place-edge.ensures.there c.edge_place-edge.ensures.number (c.may_pass.ensures w.if-not-may_pass.true)))
+          (place_refused c.args.graph.now c.args.part.table c.args.part.direction c.args.part.row c.args.test (c.args.part.low + c.in-Some.offset) c.edge_place-edge.result c.edge_place-edge.ensures.there c.edge_place-edge.ensures.number (c.may_pass.ensures.refused w.if-not-may_pass.true)))
       | else-not-may_pass w ↦ subst (IsDropping c.args.graph.now c.args.part.table c.args.part.direction c.args.part.row c.args.test c.args.part.low c.args.marks.now) (sym w.marks-is) c.places.invariant
     ]
 

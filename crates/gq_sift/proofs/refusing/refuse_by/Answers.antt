@@ -12,4 +12,4 @@ returns-in-Some-placed-clause-dropped c = λ j before after.
     ap (λ l. slice_get l c.args.test) (sym c.deref.ensures.value)
     ∙ slice_get_read c.deref.result.now (length c.deref.result.now) c.args.test c.in-Some.test.now refl c.in-Some.ensures.lookup.3.0 c.in-Some.ensures.lookup.1 in
     let of = of_run k c.requires.run c.args.test c.in-Some.test.now there in
-    refused_at k c.requires.run c.args.follow c.args.row.now c.args.test c.in-Some.test.now there c.in-Some-placed.placed of.0 of.1 c.in-Some-placed.ensures _ (c.drop_refused.ensures.dropped j before after)
+    refused_at k c.requires.run c.args.follow c.args.row.now c.args.test c.in-Some.test.now there c.in-Some-placed.placed of.0 of.1 c.in-Some-placed.ensures.refuses _ (c.drop_refused.ensures.dropped j before after)

@@ -1,9 +1,9 @@
-use Rattle.std.proofs.Common.{◌≡◌, ◌<◌, ◌∙◌, ℕ, Some, length, inl, inr, sym, ap, subst, arith}
+use Rattle.std.proofs.Common.{◌≡◌, ◌<◌, ◌∙◌, Some, inl, inr, sym, ap, arith}
 use Rattle.std.proofs.lemmas.Bool.{cases_eq}
 use Rattle.gq_steps.specs.Levels.{step_at}
 use Rattle.gq_steps.specs.Moves.{run_of}
 use Rattle.gq_steps.proofs.Trying.{as_many_steps}
-use Rattle.gq_sift.specs.Tested.{test_of}
+use Rattle.gq_steps.specs.Tests.{test_of}
 use Rattle.gq_sift.proofs.Judged.{can_follow}
 use Rattle.gq_sift.proofs.Refused.{among_left}
 use Rattle.gq_sift.proofs.refusing.refuse_list.Goals as goal

@@ -2,7 +2,7 @@ use Rattle.std.proofs.Common.{◌≡◌, ◌<◌, ℕ, Some}
 use Rattle.gq_steps.specs.Levels.{step_at}
 use Rattle.gq_steps.specs.Moves.{run_of}
 use Rattle.gq_sift.specs.Among.{IsAmong}
-use Rattle.gq_sift.specs.Tested.{test_of}
+use Rattle.gq_steps.specs.Tests.{test_of}
 use Rattle.gq_sift.proofs.refusing.refuse_list.Given as goal
 
 abbrev pub invariant-loop-depth : goal.invariant-loop-depth
