@@ -9,10 +9,12 @@ use Rattle.gq_law_groups.specs.Layout.{known_with, AreFlatEnough}
 use Rattle.gq_base.specs.Catalogs.{Tables}
 use Rattle.gq_plan.specs.Known.{Known}
 use Rattle.gq_plan.specs.declared.typed.Typed.{Typed}
-use Rattle.gq_homes.specs.Cuts.{step_in, flag, group_of, TilesTo, IsCutTo}
+use Rattle.std.specs.Prelude.{slice_index_or}
+use Rattle.gq_homes.specs.Cuts.{flag, IsGroupOf, TilesTo, IsCutTo}
 use Rattle.gq_homes.specs.steps.Cutting.{IsCutting}
 use Rattle.gq_steps.specs.Actions.{action_of}
-use Rattle.gq_steps.specs.Levels.{Run}
+use Rattle.gq_steps.specs.Levels.{Run, step_at}
+use Rattle.gq_steps.specs.Tests.{IsCut}
 use Rattle.gq_steps.specs.Groups.{group_at, group_in, Tiles}
 use Rattle.gq_steps.specs.declared.group_steps.GroupSteps.{GroupSteps}
 
@@ -27,7 +29,7 @@ module _ (ss : List Step) where
   tiles_more from [] to s h at some inside = (at ∙ sym h, some, inside, refl)
   tiles_more from (t ∷ gs) to s h at some inside = (h.0, h.1, h.2, tiles_more t.end gs to s h.3 at some inside)
 
-  cut_more : (gs : List GroupSteps) (s : GroupSteps) → AreCut (map (group_in ss) gs) → makes_group (step_in ss s.first) ≡ true → NoGroups (group_in ss s).checks → AreCut (map (group_in ss) (gs ++ s ∷ []))
+  cut_more : (gs : List GroupSteps) (s : GroupSteps) → AreCut (map (group_in ss) gs) → makes_group (slice_index_or ss s.first (Keep 0)) ≡ true → NoGroups (group_in ss s).checks → AreCut (map (group_in ss) (gs ++ s ∷ []))
   cut_more [] s h makes none = (makes, none, tt)
   cut_more (t ∷ gs) s h makes none = (h.0, h.1, cut_more gs s h.2 makes none)
 
@@ -53,62 +55,66 @@ module _ (ss : List Step) where
           let e : i ≡ length gs = omega (arith, h, low, many gs s) in
           ap (λ j. (group_at (gs ++ s ∷ []) j).flat) e ∙ ap (λ (t : GroupSteps). t.flat) (last_at gs s) ∙ last ∙ ap (flag flat) (sym e)
 
-  abbrev IsTold : GroupSteps → Type 0
-  IsTold s = s.action ≡ action_of (step_in ss s.first)
-
-  actions_more : (gs : List GroupSteps) (s : GroupSteps) → ((i : ℕ) → i < length gs → IsTold (group_at gs i)) → IsTold s → (i : ℕ) → i < length (gs ++ s ∷ []) → IsTold (group_at (gs ++ s ∷ []) i)
-  actions_more gs s all last i low = go (cases_lt i (length gs))
+  told_more : (P : GroupSteps → Type 0) (gs : List GroupSteps) (s : GroupSteps) → ((i : ℕ) → i < length gs → P (group_at gs i)) → P s → (i : ℕ) → i < length (gs ++ s ∷ []) → P (group_at (gs ++ s ∷ []) i)
+  told_more P gs s all last i low = go (cases_lt i (length gs))
     where
-      go : (i < length gs) ⊎ (length gs ≤ i) → IsTold (group_at (gs ++ s ∷ []) i)
-      go (inl h) = subst IsTold (sym (before gs s i h)) (all i h)
+      go : (i < length gs) ⊎ (length gs ≤ i) → P (group_at (gs ++ s ∷ []) i)
+      go (inl h) = subst P (sym (before gs s i h)) (all i h)
       go (inr h) =
           let e : i ≡ length gs = omega (arith, h, low, many gs s) in
-          subst IsTold (sym (ap (group_at (gs ++ s ∷ [])) e ∙ last_at gs s)) last
+          subst P (sym (ap (group_at (gs ++ s ∷ [])) e ∙ last_at gs s)) last
 
+module _ (c : Run) where
   -- one group more
-  pub cut_on : (flat : List Bool) (gs : List GroupSteps) (first end : ℕ) (f : Bool) → f ≡ flag flat (length gs) → IsCutting ss flat gs first end → IsCutTo ss flat (gs ++ group_of ss first end f ∷ []) end
-  cut_on flat gs first end f is c =
-      let low = c.low in
-      let high = c.high in
+  pub cut_on : (flat : List Bool) (gs : List GroupSteps) (first end : ℕ) (f : Bool) (s : GroupSteps) → IsGroupOf c first end f s → f ≡ flag flat (length gs) → IsCutting c flat gs first end → IsCutTo c flat (gs ++ s ∷ []) end
+  cut_on flat gs first end f s of is t =
+      let low = t.low in
+      let high = t.high in
+      let from : s.first ≡ first = of.first in
+      let to : s.end ≡ end = of.end in
       record {
-        tiles = tiles_more 0 gs first (group_of ss first end f) c.before.tiles refl c.low c.high;
-        cut = cut_more gs (group_of ss first end f) c.before.cut c.starts
-            (none_in ss (first + 1) (end - (first + 1)) (omega (arith, low, high)) (λ d above below. c.rest d (omega (arith, above)) (omega (arith, below, low))));
-        flags = flags_more flat gs (group_of ss first end f) c.before.flags is;
-        actions = actions_more gs (group_of ss first end f) c.before.actions refl;
+        tiles = subst (TilesTo c.steps 0 (gs ++ s ∷ [])) to (tiles_more c.steps 0 gs first s t.before.tiles from (omega (arith, low, from, to)) (omega (arith, high, to)));
+        cut = cut_more c.steps gs s t.before.cut (ap (λ d. makes_group (step_at c d)) from ∙ t.starts)
+            (none_in c.steps (s.first + 1) (s.end - (s.first + 1)) (omega (arith, low, high, from, to)) (λ d above below. t.rest d (omega (arith, above, from)) (omega (arith, below, low, from, to))));
+        flags = flags_more c.steps flat gs s t.before.flags (of.flat ∙ is);
+        actions = told_more c.steps (λ u. u.action ≡ action_of (step_at c u.first)) gs s t.before.actions (of.action ∙ ap (λ d. action_of (step_at c d)) (sym from));
+        cuts = told_more c.steps (λ u. IsCut c u.first u.end u.cut) gs s t.before.cuts (subst (λ d. IsCut c d s.end s.cut) (sym from) (subst (λ d. IsCut c first d s.cut) (sym to) of.cut));
       }
 
-  pub cutting_from : (flat : List Bool) → 0 < length ss → makes_group (step_in ss 0) ≡ true → IsCutting ss flat [] 0 1
+  pub cutting_from : (flat : List Bool) → 0 < length c.steps → makes_group (step_at c 0) ≡ true → IsCutting c flat [] 0 1
   cutting_from flat some makes = record {
     low = omega arith;
     high = omega (arith, some);
     starts = makes;
     rest = λ d above below. absurd (omega (arith, above, below));
-    before = record { tiles = refl; cut = tt; flags = λ i low. absurd (omega (arith, low)); actions = λ i low. absurd (omega (arith, low)) };
+    before = none_cut flat;
   }
+    where
+      none_cut : (flat : List Bool) → IsCutTo c flat [] 0
+      none_cut flat = record { tiles = refl; cut = tt; flags = λ i low. absurd (omega (arith, low)); actions = λ i low. absurd (omega (arith, low)); cuts = λ i low. absurd (omega (arith, low)) }
 
-  pub cutting_next : (flat : List Bool) (gs : List GroupSteps) (first end : ℕ) (f : Bool) → f ≡ flag flat (length gs) → IsCutting ss flat gs first end → end < length ss → makes_group (step_in ss end) ≡ true
-      → IsCutting ss flat (gs ++ group_of ss first end f ∷ []) end (end + 1)
-  cutting_next flat gs first end f is c low makes = record {
+  pub cutting_next : (flat : List Bool) (gs : List GroupSteps) (first end : ℕ) (f : Bool) (s : GroupSteps) → IsGroupOf c first end f s → f ≡ flag flat (length gs) → IsCutting c flat gs first end → end < length c.steps → makes_group (step_at c end) ≡ true
+      → IsCutting c flat (gs ++ s ∷ []) end (end + 1)
+  cutting_next flat gs first end f s of is t low makes = record {
     low = omega arith;
     high = omega (arith, low);
     starts = makes;
     rest = λ d above below. absurd (omega (arith, above, below));
-    before = cut_on flat gs first end f is c;
+    before = cut_on flat gs first end f s of is t;
   }
 
-  pub cutting_more : (flat : List Bool) (gs : List GroupSteps) (first end : ℕ) → IsCutting ss flat gs first end → end < length ss → makes_group (step_in ss end) ≡ false → IsCutting ss flat gs first (end + 1)
-  cutting_more flat gs first end c low none = record {
-    low = (let h = c.low in omega (arith, h));
+  pub cutting_more : (flat : List Bool) (gs : List GroupSteps) (first end : ℕ) → IsCutting c flat gs first end → end < length c.steps → makes_group (step_at c end) ≡ false → IsCutting c flat gs first (end + 1)
+  cutting_more flat gs first end t low none = record {
+    low = (let h = t.low in omega (arith, h));
     high = omega (arith, low);
-    starts = c.starts;
+    starts = t.starts;
     rest = λ d above below. go d above below (cases_eq d end);
-    before = c.before;
+    before = t.before;
   }
     where
-      go : (d : ℕ) → first < d → d < end + 1 → (d ≡ end) ⊎ (d ≡ end → ⊥) → makes_group (step_in ss d) ≡ false
-      go d above below (inl e) = ap (λ n. makes_group (step_in ss n)) e ∙ none
-      go d above below (inr e) = c.rest d above (omega (arith, below, e))
+      go : (d : ℕ) → first < d → d < end + 1 → (d ≡ end) ⊎ (d ≡ end → ⊥) → makes_group (step_at c d) ≡ false
+      go d above below (inl e) = ap (λ n. makes_group (step_at c n)) e ∙ none
+      go d above below (inr e) = t.rest d above (omega (arith, below, e))
 
 -- ---- the groups are the plan
 
@@ -135,8 +141,8 @@ tiles_plan ss from (s ∷ gs) h =
     let low : s.first < s.end = h.1 in
     let high : s.end ≤ length ss = h.2 in
     let back : s.first + 1 + (s.end - (s.first + 1)) ≡ s.end = omega (arith, low) in
-    ap (λ p. Then (step_in ss s.first) (checked (group_in ss s).checks p)) (tiles_plan ss s.end gs h.3)
-    ∙ ap (Then (step_in ss s.first)) (checked_steps (group_in ss s).checks (drop s.end ss)
+    ap (λ p. Then (slice_index_or ss s.first (Keep 0)) (checked (group_in ss s).checks p)) (tiles_plan ss s.end gs h.3)
+    ∙ ap (Then (slice_index_or ss s.first (Keep 0))) (checked_steps (group_in ss s).checks (drop s.end ss)
     ∙ ap steps (ap (λ n. (group_in ss s).checks ++ drop n ss) (sym back) ∙ cut_there ss (s.first + 1) (s.end - (s.first + 1))))
     ∙ ap steps (sym (drop_more ss s.first (Keep 0) (omega (arith, low, high)))) ∙ ap (λ n. steps (drop n ss)) h.0
 

@@ -1,58 +1,61 @@
 //! A plan's steps cut into its groups.
-ghost use Rattle.std.specs.Prelude.{◌≡◌, ◌<◌, length, true, IfOk};
+ghost use Rattle.std.specs.Prelude.{◌≡◌, ◌<◌, ◌≤◌, length, true, IfOk};
 ghost use Rattle.gq_law_groups.specs.Groups.{makes_group};
-ghost use Rattle.gq_plan.specs.Plans.{step_of};
-ghost use Rattle.gq_homes.specs.Cuts.{IsCutTo, flag, group_of, step_in};
-ghost use Rattle.gq_steps.specs.Moves.{run_steps};
+ghost use Rattle.gq_homes.specs.Cuts.{IsCutTo, IsGroupOf, flag};
+ghost use Rattle.gq_steps.specs.Levels.{step_at};
+ghost use Rattle.gq_steps.specs.Moves.{IsRun, run_of, steps_in};
 
 use gq_base::Memory;
-use gq_plan::Step;
-use gq_steps::{GroupSteps, RunStep};
+use gq_sift::cut_of;
+use gq_steps::{Action, GroupSteps, PlanRun};
 use std::alloc::Global;
 
 /// The groups of steps of which the first makes one: each with the steps up to the next one that
 /// does, and flat as it is told. No steps have no groups.
 pub fn cut_groups(
     alloc: Global,
-    steps: &[RunStep<'_>],
+    plan_run: &PlanRun<'_>,
     flat: &[bool],
 ) -> Result<Vec<GroupSteps>, Memory>
-    requires begins { 0 < length steps.now
-        → makes_group (step_in (run_steps steps.now) 0) ≡ true }
-    ensures { IfOk result (λ gs. IsCutTo (run_steps steps.now) flat.now gs.items
-        (length steps.now)) }
+    requires run { IsRun (run_of plan_run.now) }
+    requires begins { 0 < length (steps_in plan_run.now)
+        → makes_group (step_at (run_of plan_run.now) 0) ≡ true }
+    ensures { let c = run_of plan_run.now in
+        IfOk result (λ gs. IsCutTo c flat.now gs.items (length c.steps)) }
 {
     let mut groups = Vec::new(alloc);
-    let count = steps.len();
+    let count = plan_run.steps.len();
     if count == 0 {
         return Ok(groups);
     }
     let mut first = 0;
     let mut end = 1;
-    while end < steps.len() {
-        if starts_group(steps[end].step) {
+    while end < count {
+        if starts_group(plan_run, end) {
             let flat = flag(flat, groups.len());
-            groups.push(group_of(steps, first, end, flat))?;
+            groups.push(group_of(plan_run, first, end, flat))?;
             first = end;
         }
         end += 1;
     }
     let flat = flag(flat, groups.len());
-    groups.push(group_of(steps, first, end, flat))?;
+    groups.push(group_of(plan_run, first, end, flat))?;
     Ok(groups)
 }
 
 // The group of the steps from one on up to another.
-fn group_of(steps: &[RunStep<'_>], first: usize, end: usize, flat: bool) -> GroupSteps
-    requires { first < length steps.now }
-    ensures { result ≡ group_of (run_steps steps.now) first end flat }
+fn group_of(plan_run: &PlanRun<'_>, first: usize, end: usize, flat: bool) -> GroupSteps
+    requires run { IsRun (run_of plan_run.now) }
+    requires some { first < end }
+    requires inside { end ≤ length (steps_in plan_run.now) }
+    ensures { IsGroupOf (run_of plan_run.now) first end flat result }
 {
-    let step = steps[first];
     GroupSteps {
         first,
         end,
         flat,
-        action: step.action(),
+        action: plan_run.action(first),
+        cut: cut_of(plan_run, first, end),
     }
 }
 
@@ -65,14 +68,16 @@ fn flag(flat: &[bool], group: usize) -> bool
     }
 }
 
-/// Whether a step makes a group.
-#[tactic(auto, using(gq_plan::proofs::StepEquations::equations))]
-pub(crate) fn starts_group(step: &Step) -> bool
-    ensures { result ≡ makes_group (step_of step.now) }
+// Whether the step at a depth makes a group.
+fn starts_group(plan_run: &PlanRun<'_>, depth: usize) -> bool
+    requires { depth < length (steps_in plan_run.now) }
+    ensures { result ≡ makes_group (step_at (run_of plan_run.now) depth) }
 {
-    match step {
-        Step::Scan { .. } | Step::Extend { .. } | Step::Close { .. } | Step::Join { .. } => true,
-        Step::ColumnExtend { .. } | Step::ColumnClose { .. } => false,
-        Step::Keep { .. } | Step::Differ { .. } | Step::NoLoop { .. } => false,
+    match plan_run.action(depth) {
+        Action::Scan(_node) => true,
+        Action::List(_follow) => true,
+        Action::Close(_follow) => true,
+        Action::Join => true,
+        _ => false,
     }
 }

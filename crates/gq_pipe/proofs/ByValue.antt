@@ -31,7 +31,6 @@ use Rattle.gq_plan.specs.declared.typed.Typed.{Typed}
 use Rattle.gq_same_texts.specs.Same.{Dicts, HaveOneText}
 use Rattle.gq_same_texts.specs.declared.asked.EqualTexts.{EqualTexts}
 use Rattle.gq_sift.proofs.Judged.{judged}
-use Rattle.gq_steps.specs.Built.{FitsBuild, HasBuild}
 use Rattle.gq_steps.specs.Keeps.{makes_one, IsRange}
 use Rattle.gq_steps.specs.Levels.{Run, step_at, built_at, known, before}
 use Rattle.gq_steps.specs.Matches.{AreMatches}
@@ -42,7 +41,7 @@ use Rattle.gq_steps.specs.declared.group_steps.GroupSteps.{GroupSteps}
 use Rattle.gq_steps.specs.declared.plan_run.Tried.TheVariants.{Made}
 use Rattle.gq_steps.specs.steps.Outcomes.{passes_at, tested, with_kept}
 use Rattle.gq_steps.proofs.Going.{IsGoing, begins, made_first, tried_made, tried_missed}
-use Rattle.gq_steps.proofs.Joined.{build, build_at, can_join, h, join_count, join_tried}
+use Rattle.gq_steps.proofs.Joined.{build, can_join, h, join_count, join_tried}
 use Rattle.gq_steps.proofs.Joining.{get_set_all, has, length-set_all}
 use Rattle.gq_steps.proofs.Testing.{differ_tried, keep_tried, no_loop_tried}
 use Rattle.gq_pipe.specs.declared.valued.ValueIndex.{ValueIndex}

@@ -109,7 +109,7 @@ counted_keys g y p rows ks owed bag are =
 
 -- ---- a run
 
-module _ (c : Run) (run : IsRun c) (flat : List Bool) (ss : List GroupSteps) (cut : IsCutTo c.steps flat ss (length c.steps)) (enough : AreFlatEnough c.graph.catalog c.typed (flag flat) 0 (groups_of (steps c.steps)) none)
+module _ (c : Run) (run : IsRun c) (flat : List Bool) (ss : List GroupSteps) (cut : IsCutTo c flat ss (length c.steps)) (enough : AreFlatEnough c.graph.catalog c.typed (flag flat) 0 (groups_of (steps c.steps)) none)
     (p : Plan) (same : after p none ≡ after (steps c.steps) none) (os : List (Option Held)) (made : makers_of (steps_of p) os ≡ map (maker_in c) ss) (each : length os ≡ length (steps_of p)) (told : flat ≡ flags_of c.typed p) where
   abbrev decoded : List ℕ → Partial
   decoded w = decode c.graph c.typed (rows_in c ss) 0 (groups_in c ss) nothing w

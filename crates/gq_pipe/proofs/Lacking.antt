@@ -21,7 +21,7 @@ use Rattle.gq_law_groups.specs.Groups.{Group}
 use Rattle.gq_law_groups.proofs.Closing.{Marks, closes_end}
 use Rattle.gq_law_groups.proofs.Ending.{EndsAt}
 use Rattle.gq_pipe.specs.steps.Told.{Closes}
-use Rattle.gq_steps.specs.declared.plan_run.Follow.{Follow}
+use Rattle.gq_plan.specs.declared.follow.Follow.{Follow}
 
 -- the item of a pair stands among the targets of its vertex
 stands-target : (fs ts : List ℕ) (i : ℕ) → i < length fs → length fs ≡ length ts → stands_in (targets (get_or fs i 0) fs ts) (get_or ts i 0) ≡ true

@@ -39,7 +39,7 @@ use Rattle.gq_steps.specs.Levels.{Run, step_at, built_at, known, before, taken}
 use Rattle.gq_steps.specs.Moves.{IsRun, IsHeld, IsMade}
 use Rattle.gq_steps.specs.Tries.{tries}
 use Rattle.gq_steps.specs.declared.group_steps.GroupSteps.{GroupSteps}
-use Rattle.gq_steps.specs.declared.plan_run.Follow.{Follow}
+use Rattle.gq_plan.specs.declared.follow.Follow.{Follow}
 use Rattle.gq_steps.specs.declared.plan_run.Tried.TheVariants.{Made}
 use Rattle.gq_steps.specs.steps.Lists.{IsGrouped, flat_in, rows_in, layout_in, Stands}
 use Rattle.gq_steps.specs.steps.Outcomes.{with_number, with_row}

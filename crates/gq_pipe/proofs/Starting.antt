@@ -40,11 +40,11 @@ use Rattle.gq_steps.specs.Built.{AreBuilds}
 use Rattle.gq_pipe.specs.Keys.{assignment_key, key_count, makers_of}
 use Rattle.gq_pipe.specs.Keys.{rows_of as brought_rows}
 use Rattle.gq_steps.specs.Given.{given}
-use Rattle.gq_homes.specs.Cuts.{begins, flag, groups_of, IsCutTo, step_in}
+use Rattle.gq_homes.specs.Cuts.{begins, flag, groups_of, IsCutTo}
 use Rattle.gq_pipe.specs.steps.Alone.{first_state, is_kept}
 use Rattle.gq_pipe.specs.steps.Given.{RunsPlan, bound_by, given_plan, numbers_of, rows_of}
 use Rattle.gq_homes.specs.Homes.{AreHomes}
-use Rattle.gq_steps.specs.Levels.{Run}
+use Rattle.gq_steps.specs.Levels.{Run, step_at}
 use Rattle.gq_steps.specs.steps.Lists.{IsGrouped, layout_in, rows_in}
 use Rattle.gq_steps.specs.Groups.{group_in, groups_in}
 use Rattle.gq_steps.specs.steps.Outcomes.{passes_at}
@@ -188,7 +188,7 @@ module _ (k : PlanRun) (p : code_plan.Plan) (os : List (Option Held)) (order : L
     bound = ap (λ q. after q none) (sym plan_same) ∙ runs_all.bound ∙ ap (λ q. after q none) (sym runs_are);
   }
 
-  pub first_run : 0 < length c.steps → makes_group (step_in c.steps 0) ≡ true
+  pub first_run : 0 < length c.steps → makes_group (step_at c 0) ≡ true
   first_run = λ some. elim runs_all.begins [
     | inl none_left ↦ absurd (steps_none c.steps (runs_are ∙ none_left) some)
     | inr first ↦ (some_step c.steps (ap begins runs_are ∙ first)).1
@@ -215,7 +215,7 @@ module _ (k : PlanRun) (p : code_plan.Plan) (os : List (Option Held)) (order : L
       counted_keys g y (plan_of p) (brought_rows y (plan_of p) lent) ks owed bag
       (subst (λ q. AreKeysOf ks (map (plan_key g y (brought_rows y q lent) q) owed)) (sym plan_same) are)
 
-  module _ (ss : List GroupSteps) (cut : IsCutTo c.steps flat ss (length c.steps)) where
+  module _ (ss : List GroupSteps) (cut : IsCutTo c flat ss (length c.steps)) where
     pub grouped_run : IsGrouped c ss
     grouped_run = grouped c run flat ss cut enough_run
 

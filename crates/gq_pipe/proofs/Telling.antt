@@ -16,7 +16,7 @@ use Rattle.gq_steps.specs.declared.plan_run.PlanRun.{PlanRun}
 use Rattle.gq_steps.specs.declared.plan_run.RunStep.{RunStep}
 use Rattle.gq_steps.specs.Groups.{group_at}
 use Rattle.gq_steps.specs.Levels.{Run, step_at}
-use Rattle.gq_steps.specs.declared.plan_run.Follow.{Follow}
+use Rattle.gq_plan.specs.declared.follow.Follow.{Follow}
 use Rattle.gq_pipe.specs.steps.Told.{BindsNode}
 use Rattle.gq_store.specs.Neighbours.{near_rows}
 use Rattle.gq_pipe.specs.declared.sight.Sight.{Sight}

@@ -49,7 +49,7 @@ use Rattle.gq_pipe.proofs.Reaching.{Reached, reached, binds_known}
 use Rattle.gq_steps.specs.Groups.{no_group, group_at, group_in, groups_in}
 use Rattle.gq_steps.specs.Levels.{Run, step_at, built_at, known, before}
 use Rattle.gq_steps.specs.declared.group_steps.GroupSteps.{GroupSteps}
-use Rattle.gq_steps.specs.declared.plan_run.Follow.{Follow}
+use Rattle.gq_plan.specs.declared.follow.Follow.{Follow}
 use Rattle.gq_steps.specs.Moves.{IsRun}
 use Rattle.gq_steps.specs.steps.Lists.{IsGrouped, flat_in, rows_in, layout_in, Stands}
 use Rattle.gq_steps.proofs.Binding.{fits_at}

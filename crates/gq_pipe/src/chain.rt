@@ -5,32 +5,34 @@ ghost use Rattle.gq_pipe.specs.declared.ahead.Ahead.TheVariants.{Far};
 ghost use Rattle.gq_pipe.specs.steps.Ahead.{AreAhead, AreNext, AreToldMore, EndsAmong, StayAhead};
 ghost use Rattle.gq_pipe.specs.steps.Sights.{StayOpen};
 ghost use Rattle.gq_steps.specs.declared.group_steps.GroupSteps.{GroupSteps};
-ghost use Rattle.gq_steps.specs.Levels.{Run, known};
+ghost use Rattle.gq_steps.specs.Actions.{action_of};
+ghost use Rattle.gq_steps.specs.Levels.{Run, known, step_at};
 ghost use Rattle.gq_steps.specs.Moves.{run_of, steps_in, IsHeld, IsRun};
 
 use crate::ahead::Ahead;
 use crate::sight::Sight;
 use gq_bits::{Marks, VECTOR};
 use gq_plan::Assignment;
-use gq_steps::PlanRun;
+use gq_steps::{GroupSteps, PlanRun};
 
-/// Whether it is known of a place of the list of a group, which the step at `first` makes, that a
-/// later group makes nothing of it. Where a mask is due it is told of more rows, or one for which it
-/// waits is. It takes no memory.
+/// Whether it is known of a place of the list of the group at a depth that a later group makes
+/// nothing of it. Where a mask is due it is told of more rows, or one for which it waits is. It takes
+/// no memory.
 pub(crate) fn ends_ahead(
     aheads: &mut Vec<Option<Ahead<'_>>>,
     depth: usize,
     plan_run: &mut PlanRun<'_>,
-    first: usize,
+    group: GroupSteps,
     place: u32,
     row: &mut Assignment,
 ) -> bool
     requires run { IsRun (run_of plan_run.old) }
-    requires first { first < length (steps_in plan_run.old) }
-    requires held { IsHeld (run_of plan_run.old) row.old (known (run_of plan_run.old) first) }
+    requires step { group.first < length (steps_in plan_run.old) }
+    requires action { group.action ≡ action_of (step_at (run_of plan_run.old) group.first) }
+    requires held { IsHeld (run_of plan_run.old) row.old (known (run_of plan_run.old) group.first) }
     ensures told { StayAhead (run_of plan_run.old) aheads.old.items aheads.new.items }
-    ensures ends { result ≡ true → EndsAmong (run_of plan_run.old) first row.old place depth
-        aheads.new.items }
+    ensures ends { result ≡ true → EndsAmong (run_of plan_run.old) group.first row.old place
+        depth aheads.new.items }
     ensures row { row.new ≡ row.old }
     ensures same { plan_run.new ≡ plan_run.old }
 {
@@ -42,7 +44,7 @@ pub(crate) fn ends_ahead(
         None => false,
         Some(told) => match told {
             None => false,
-            Some(ahead) => ahead.ends_at(plan_run, first, place, row),
+            Some(ahead) => ahead.ends_at(plan_run, group, place, row),
         },
     }
 }

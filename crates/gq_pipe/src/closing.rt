@@ -5,8 +5,8 @@ ghost use Rattle.gq_pipe.specs.steps.Told.{HasNothing};
 ghost use Rattle.gq_steps.specs.Follows.{CanList};
 
 use gq_near::NearSet;
-use gq_plan::Assignment;
-use gq_steps::{Follow, PlanRun};
+use gq_plan::{Assignment, Follow};
+use gq_steps::PlanRun;
 
 /// What a group that follows a list to a node is told by a later one, which closes between this node
 /// and an earlier one: the rows to which relationships lead from the earlier one.

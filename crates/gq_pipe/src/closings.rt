@@ -13,7 +13,8 @@ use crate::ahead::Ahead;
 use crate::closing::Closing;
 use crate::sights::sight_of;
 use gq_near::NearSet;
-use gq_steps::{Action, Follow, GroupSteps, PlanRun, following};
+use gq_plan::{Follow, following};
+use gq_steps::{Action, GroupSteps, PlanRun};
 use std::alloc::Global;
 
 /// What each group is told by later ones, from the last one to the first. The memory for it is taken

@@ -1,6 +1,6 @@
 //! What is remembered of the lists of groups that no group but earlier ones than the last moves.
 ghost use Rattle.std.specs.Prelude.{◌≡◌, ◌≢◌, ◌+◌, ◌*◌, ◌<◌, ◌≤◌, ◌^◌, ℕ, length, slice_get, IfSome};
-ghost use Rattle.gq_pipe.specs.steps.Recalled.{AreRemembered, IsOwn};
+ghost use Rattle.gq_pipe.specs.steps.Recalled.{AreRemembered, AreTold, IsOwn};
 ghost use Rattle.gq_sift.specs.Remembered.{IsRemembered};
 ghost use Rattle.gq_steps.specs.Groups.{group_at};
 ghost use Rattle.gq_steps.specs.Keeps.{IsRange, IsSifted};
@@ -23,7 +23,8 @@ pub(crate) fn remembered(
     plan_run: &PlanRun<'_>,
     groups: &[GroupSteps],
 ) -> Vec<Option<Remembered>>
-    requires { IsRun (run_of plan_run.now) }
+    requires run { IsRun (run_of plan_run.now) }
+    requires told { AreTold (run_of plan_run.now) groups.now }
     ensures { AreRemembered (run_of plan_run.now) groups.now result.items }
 {
     let mut all = Vec::new(alloc);
@@ -45,6 +46,7 @@ fn remembered_at(
     depth: usize,
 ) -> Option<Remembered>
     requires run { IsRun (run_of plan_run.now) }
+    requires told { AreTold (run_of plan_run.now) groups.now }
     requires depth { depth < length groups.now }
     ensures { IfSome result (IsRemembered (run_of plan_run.now) (group_at groups.now depth)) }
 {

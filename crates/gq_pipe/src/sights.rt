@@ -14,8 +14,8 @@ use crate::closings::extends;
 use crate::sight::Sight;
 use crate::value_joins::test_at;
 use gq_masks::Mask;
-use gq_plan::Known;
-use gq_steps::{Action, Follow, GroupSteps, PlanRun};
+use gq_plan::{Follow, Known};
+use gq_steps::{Action, GroupSteps, PlanRun};
 use std::alloc::Global;
 
 /// What a flat group is told by the first later one that follows a list from its node to one of

@@ -5,7 +5,7 @@ use Rattle.gq_plan.specs.Plans.{Extend}
 use Rattle.gq_plan.specs.declared.assignment.Assignment.{Assignment}
 use Rattle.gq_steps.specs.Levels.{Run, step_at}
 use Rattle.gq_steps.specs.declared.group_steps.GroupSteps.{GroupSteps}
-use Rattle.gq_steps.specs.declared.plan_run.Follow.{Follow}
+use Rattle.gq_plan.specs.declared.follow.Follow.{Follow}
 use Rattle.gq_pipe.specs.declared.ahead.Ahead.{Ahead}
 use Rattle.gq_pipe.specs.declared.ahead.Ahead.TheVariants.{Near, Far}
 use Rattle.gq_pipe.specs.steps.Closings.{IsClosing}

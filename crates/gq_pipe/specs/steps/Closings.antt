@@ -5,7 +5,7 @@ use Rattle.gq_plan.specs.Rows.{rel_table}
 use Rattle.gq_steps.specs.Groups.{group_at}
 use Rattle.gq_steps.specs.Levels.{Run, step_at}
 use Rattle.gq_steps.specs.declared.group_steps.GroupSteps.{GroupSteps}
-use Rattle.gq_steps.specs.declared.plan_run.Follow.{Follow}
+use Rattle.gq_plan.specs.declared.follow.Follow.{Follow}
 use Rattle.gq_pipe.specs.declared.closing.Closing.{Closing}
 use Rattle.gq_pipe.specs.steps.Told.{Closes, IsBoundBefore}
 

@@ -17,7 +17,7 @@ use Rattle.gq_steps.specs.Groups.{group_at, group_in, groups_in}
 use Rattle.gq_steps.specs.Levels.{Run, step_at}
 use Rattle.gq_steps.specs.Moves.{IsRun}
 use Rattle.gq_steps.specs.declared.group_steps.GroupSteps.{GroupSteps}
-use Rattle.gq_steps.specs.declared.plan_run.Follow.{Follow}
+use Rattle.gq_plan.specs.declared.follow.Follow.{Follow}
 use Rattle.gq_steps.specs.steps.Lists.{IsGrouped, rows_in}
 use Rattle.gq_store.specs.Neighbours.{near_rows, neighbours}
 

@@ -1,5 +1,5 @@
 -- Joins whose matches are found by a value: a test asks a property of a node of the build to be equal to one of a node that stands.
-use Rattle.std.specs.Prelude.{◌≡◌, ℕ, ℤ, ◌+◌, ◌*◌, ◌<◌, ◌≤◌, ◌⊎◌, Bool, true, false, Option, Some, None, List, [], map, length, slice_get, slice_index_or}
+use Rattle.std.specs.Prelude.{◌≡◌, ℕ, ℤ, ◌+◌, ◌*◌, ◌<◌, ◌≤◌, ◌⊎◌, Bool, true, false, Option, Some, None, List, map, length, slice_get, slice_index_or}
 use Rattle.std.specs.List.{range_with_len}
 use Rattle.gq_bits.specs.Places.{is_marked}
 use Rattle.gq_bits.specs.declared.TheConstants.{VECTOR}

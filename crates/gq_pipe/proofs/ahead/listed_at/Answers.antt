@@ -5,4 +5,4 @@ use Rattle.gq_pipe.proofs.ahead.listed_at.Goals as goal
 
 pub list-requires : goal.list-requires
 list-requires c =
-    can_list (run_of c.args.plan_run.now) c.requires.run c.args.depth (steps_run c.args.plan_run.now c.args.depth c.requires.depth) c.args.row.now c.requires.held c.in-Some.follow c.in-Some.ensures
+    can_list (run_of c.args.plan_run.now) c.requires.run c.args.depth (steps_run c.args.plan_run.now c.args.depth c.requires.depth) c.args.row.now c.requires.held c.args.follow c.requires.follows

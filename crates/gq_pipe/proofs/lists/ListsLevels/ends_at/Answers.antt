@@ -5,7 +5,7 @@ use Rattle.gq_pipe.specs.steps.Recalled.{AreRemembered}
 use Rattle.gq_pipe.specs.steps.Valued.{AreIndexed}
 use Rattle.gq_steps.specs.Moves.{run_of}
 use Rattle.gq_steps.specs.declared.plan_run.PlanRun.{PlanRun}
-use Rattle.gq_steps.proofs.Here.{group_held, group_low}
+use Rattle.gq_steps.proofs.Here.{group_held, group_low, group_range}
 use Rattle.gq_steps.proofs.Standings.{stands_at}
 use Rattle.gq_pipe.proofs.Unseen.{ahead_walks}
 use Rattle.gq_pipe.proofs.lists.ListsLevels.ends_at.Goals as goal
@@ -13,15 +13,20 @@ use Rattle.gq_pipe.proofs.lists.ListsLevels.ends_at.Goals as goal
 pub ends_ahead-requires-clause-run : goal.ends_ahead-requires-clause-run
 ends_ahead-requires-clause-run c = c.requires.opened.2.stand.runs
 
-pub ends_ahead-requires-clause-first : goal.ends_ahead-requires-clause-first
-ends_ahead-requires-clause-first c =
+pub ends_ahead-requires-clause-step : goal.ends_ahead-requires-clause-step
+ends_ahead-requires-clause-step c =
     let st = stands_at (run_of c.args.self.now.plan_run) c.args.self.now.groups.items c.args.self.now.row c.args.depth c.requires.inside c.requires.opened.0 c.requires.opened.1 c.requires.opened.2.stand in
-    group_low c.args.self.now.plan_run c.args.self.now.groups.items c.args.self.now.row c.args.depth c.requires.inside c.index.result.now c.index.ensures c.requires.opened.0 c.requires.opened.1 st
+    group_low c.args.self.now.plan_run c.args.self.now.groups.items c.args.self.now.row c.args.depth c.requires.inside c.index-group.result.now c.index-group.ensures c.requires.opened.0 c.requires.opened.1 st
+
+pub ends_ahead-requires-clause-action : goal.ends_ahead-requires-clause-action
+ends_ahead-requires-clause-action c =
+    let st = stands_at (run_of c.args.self.now.plan_run) c.args.self.now.groups.items c.args.self.now.row c.args.depth c.requires.inside c.requires.opened.0 c.requires.opened.1 c.requires.opened.2.stand in
+    (group_range (run_of c.args.self.now.plan_run) c.args.self.now.groups.items c.args.self.now.row c.args.depth c.requires.inside c.index-group.result.now c.index-group.ensures c.requires.opened.0 c.requires.opened.1 st).action
 
 pub ends_ahead-requires-clause-held : goal.ends_ahead-requires-clause-held
 ends_ahead-requires-clause-held c =
     let st = stands_at (run_of c.args.self.now.plan_run) c.args.self.now.groups.items c.args.self.now.row c.args.depth c.requires.inside c.requires.opened.0 c.requires.opened.1 c.requires.opened.2.stand in
-    group_held (run_of c.args.self.now.plan_run) c.args.self.now.groups.items c.args.self.now.row c.args.depth c.requires.inside c.index.result.now c.index.ensures c.requires.opened.0 c.requires.opened.1 st
+    group_held (run_of c.args.self.now.plan_run) c.args.self.now.groups.items c.args.self.now.row c.args.depth c.requires.inside c.index-group.result.now c.index-group.ensures c.requires.opened.0 c.requires.opened.1 st
 
 pub invariant_of-self : goal.invariant_of-self
 invariant_of-self c = record {
@@ -33,6 +38,6 @@ invariant_of-self c = record {
 
 pub returns-clause-ends : goal.returns-clause-ends
 returns-clause-ends c = λ on pre long st flat place.
-    ahead_walks (run_of c.args.self.now.plan_run) c.args.self.now.groups.items c.args.self.now.row c.ends_ahead.new.aheads.items c.args.depth c.requires.inside c.index.result.now c.index.ensures pre long
+    ahead_walks (run_of c.args.self.now.plan_run) c.args.self.now.groups.items c.args.self.now.row c.ends_ahead.new.aheads.items c.args.depth c.requires.inside c.index-group.result.now c.index-group.ensures pre long
     (stands_at (run_of c.args.self.now.plan_run) c.args.self.now.groups.items c.args.self.now.row c.args.depth c.requires.inside pre long st.stand) c.args.place (c.ends_ahead.ensures.ends on) place flat
     (∥∥₁_map c.args.self.now.told (c.ends_ahead.ensures.told c.args.self.now.groups.items))
