@@ -23,7 +23,7 @@ use Rattle.gq_store.specs.Neighbours.{near_rows, neighbours, numbers, end_rows}
 use Rattle.gq_hops.specs.Levels.{is_met, met_all}
 use Rattle.gq_hops.specs.steps.Hops.{IsLevelIn, IsNearIn, far_table, followed, left_at, left_from, met_in, near_in, near_table, tables_in, tables_of}
 use Rattle.gq_hops.specs.declared.follow.Followed.{Followed}
-use Rattle.gq_hops.specs.declared.follow.Level.{Level}
+use Rattle.gq_hops.specs.declared.follow.Frame.{Frame}
 use Rattle.gq_hops.specs.declared.hop.Near.{Near}
 use Rattle.gq_hops.specs.declared.hop.Near.TheVariants.{One}
 use Rattle.gq_hops.specs.steps.Nears.{rows_in}
@@ -315,7 +315,7 @@ module _ (g : Graph) (kind : List ℕ) (way : Direction) where
 
   -- ---- the relationship at a level's place
 
-  module _ (l : Level) (level : IsLevelIn g kind way l) (e : Followed) (found : slice_get (tables_in g kind way) l.table ≡ Some e) (row : ℕ) (here : slice_get (rows_in l.near) l.place ≡ Some row) where
+  module _ (l : Frame) (level : IsLevelIn g kind way l) (e : Followed) (found : slice_get (tables_in g kind way) l.table ≡ Some e) (row : ℕ) (here : slice_get (rows_in l.near) l.place ≡ Some row) where
     met_rows : (nat_eq e.near l.at.table ≡ true) × (rows_in l.near ≡ neighbours g e.table way l.at.row)
     met_rows = some_met l.at l.table l.place row (rows_in l.near) level.near.rows here e found
 

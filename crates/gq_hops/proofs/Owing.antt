@@ -18,7 +18,7 @@ use Rattle.gq_hops.specs.Walking.{Course}
 use Rattle.gq_hops.specs.Levels.{is_met}
 use Rattle.gq_hops.specs.steps.Hops.{left_at}
 use Rattle.gq_hops.specs.steps.Searches.{Run, after, ahead, behind, left_in, level_at, onto, rel_at, taken}
-use Rattle.gq_hops.specs.declared.follow.Level.{Level}
+use Rattle.gq_hops.specs.declared.follow.Frame.{Frame}
 use Rattle.gq_hops.proofs.Hopping.{all_met}
 
 -- ---- lists
@@ -92,7 +92,7 @@ after_zero k low high used rs e = rw e refl
 abbrev pub AreSame : List RelId → List RelId → ℕ → Type 0
 AreSame new rels n = (i : ℕ) → i < n → rel_at new i ≡ rel_at rels i
 
-abbrev pub AreSameLevels : List Level → List Level → ℕ → Type 0
+abbrev pub AreSameLevels : List Frame → List Frame → ℕ → Type 0
 AreSameLevels others levels n = (i : ℕ) → i < n → level_at others i ≡ level_at levels i
 
 onto_alike : (rels new : List RelId) (n : ℕ) → AreSame new rels n → (l : List RelId) → onto new n l ≡ onto rels n l
@@ -162,12 +162,12 @@ from_any k d low (suc high) at used some =
     rw no (any_from k d low high at used (filter (may_follow k.graph k.kind k.way at used) (all_rels k.graph)))
 
 module _ (c : Run) where
-  ahead_alike : (rels new : List RelId) (levels others : List Level) (n : ℕ) → AreSame new rels n → level_at others n ≡ level_at levels n → ahead c new others n ≡ ahead c rels levels n
+  ahead_alike : (rels new : List RelId) (levels others : List Frame) (n : ℕ) → AreSame new rels n → level_at others n ≡ level_at levels n → ahead c new others n ≡ ahead c rels levels n
   ahead_alike rels new levels others n same level =
       map_alike (onto new n) (onto rels n) (onto_alike rels new n same) (after c.course (c.course.low - n) (c.course.high - n) (taken c.used new n) (left_in c.course (level_at others n)))
       ∙ ap (map (onto rels n)) (ap₂ (λ used l. after c.course (c.course.low - n) (c.course.high - n) used (left_in c.course l)) (taken_alike c.used rels new n same) level)
 
-  behind_alike : (rels new : List RelId) (levels others : List Level) (n : ℕ) → AreSame new rels n → AreSameLevels others levels n → behind c new others n ≡ behind c rels levels n
+  behind_alike : (rels new : List RelId) (levels others : List Frame) (n : ℕ) → AreSame new rels n → AreSameLevels others levels n → behind c new others n ≡ behind c rels levels n
   unfolding behind
   behind_alike rels new levels others zero same alike = refl
   behind_alike rels new levels others (suc n) same alike =
@@ -182,7 +182,7 @@ module _ (c : Run) where
   abbrev high_at : ℕ → ℕ
   high_at n = c.course.high - n
 
-  pub begun : (rels : List RelId) (levels : List Level) (start : NodeId) → 1 ≤ c.course.low → left_in c.course (level_at levels 0) ≡ fresh_left c.course start
+  pub begun : (rels : List RelId) (levels : List Frame) (start : NodeId) → 1 ≤ c.course.low → left_in c.course (level_at levels 0) ≡ fresh_left c.course start
       → walks c.course.graph c.course.kind c.course.way c.course.low c.course.high (Some start) c.used ≡ behind c rels levels 1
   unfolding behind onto taken
   begun rels levels start some is =
@@ -197,7 +197,7 @@ module _ (c : Run) where
       ∙ sym (append-nil (ahead c rels levels 0))
 
   -- nothing is left at the end of the walk
-  pub back : (rels : List RelId) (levels : List Level) (d : ℕ) → (c.course.high ≤ d) ⊎ (left_in c.course (level_at levels d) ≡ []) → behind c rels levels (suc d) ≡ behind c rels levels d
+  pub back : (rels : List RelId) (levels : List Frame) (d : ℕ) → (c.course.high ≤ d) ⊎ (left_in c.course (level_at levels d) ≡ []) → behind c rels levels (suc d) ≡ behind c rels levels d
   unfolding behind
   back rels levels d (inl high) =
       let none : high_at d ≡ 0 = omega arith in
@@ -207,7 +207,7 @@ module _ (c : Run) where
       (ap (after c.course (low_at d) (high_at d) (taken c.used rels d)) none ∙ after_none c.course (low_at d) (high_at d) (taken c.used rels d))
 
   -- the next relationship is used
-  pub skipped : (rels : List RelId) (levels others : List Level) (d : ℕ) (r : RelId) → left_in c.course (level_at levels d) ≡ r ∷ left_in c.course (level_at others d)
+  pub skipped : (rels : List RelId) (levels others : List Frame) (d : ℕ) (r : RelId) → left_in c.course (level_at levels d) ≡ r ∷ left_in c.course (level_at others d)
       → list_any (same_rel r) (taken c.used rels d) ≡ true → AreSameLevels others levels d → behind c rels levels (suc d) ≡ behind c rels others (suc d)
   unfolding behind
   skipped rels levels others d r first stands alike =
@@ -219,7 +219,7 @@ module _ (c : Run) where
   stop_onto true f = refl
   stop_onto false f = refl
 
-  module _ (rels new : List RelId) (levels others : List Level) (d : ℕ) (r : RelId) (node : NodeId) (low : d < c.course.high)
+  module _ (rels new : List RelId) (levels others : List Frame) (d : ℕ) (r : RelId) (node : NodeId) (low : d < c.course.high)
       (first : left_in c.course (level_at levels d) ≡ r ∷ left_in c.course (level_at others d)) (free : list_any (same_rel r) (taken c.used rels d) ≡ false) (leads : far c.course.graph c.course.way r ≡ Some node)
       (is : rel_at new d ≡ r) (same : AreSame new rels d) (alike : AreSameLevels others levels d) (next : suc d < c.course.high → left_in c.course (level_at others (suc d)) ≡ fresh_left c.course node) where
     abbrev here : List RelId
@@ -288,7 +288,7 @@ module _ (c : Run) where
   kept ls = filter (comes c.course.graph c.course.way c.bounds None) ls
 
   -- the next relationship leads to a node from which a walk is too short
-  module _ (are : AreBounds c.course.graph c.course.kind c.course.way c.bounds) (rels : List RelId) (levels others : List Level) (d : ℕ) (r : RelId) (node : NodeId) (low : d < c.course.high)
+  module _ (are : AreBounds c.course.graph c.course.kind c.course.way c.bounds) (rels : List RelId) (levels others : List Frame) (d : ℕ) (r : RelId) (node : NodeId) (low : d < c.course.high)
       (first : left_in c.course (level_at levels d) ≡ r ∷ left_in c.course (level_at others d)) (free : list_any (same_rel r) (taken c.used rels d) ≡ false) (leads : far c.course.graph c.course.way r ≡ Some node)
       (alike : AreSameLevels others levels d) (short : c.course.high ≤ c.bounds node + d) where
     abbrev used_now : List RelId

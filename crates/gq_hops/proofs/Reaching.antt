@@ -24,7 +24,7 @@ use Rattle.gq_hops.specs.Law.{SpreadsAsLed}
 use Rattle.gq_hops.specs.Levels.{ends_met, is_met, met_all, spread_each, spread_levels, spread_over, with_end}
 use Rattle.gq_hops.specs.declared.follow.Follow.{Follow}
 use Rattle.gq_hops.specs.declared.follow.Hop.{Hop}
-use Rattle.gq_hops.specs.declared.follow.Level.{Level as At}
+use Rattle.gq_hops.specs.declared.follow.Frame.{Frame as At}
 use Rattle.gq_hops.specs.declared.follow.Met.{Met}
 use Rattle.gq_hops.specs.steps.Hops.{IsHop, IsMetNext, left_of}
 use Rattle.gq_hops.specs.steps.Sizes.{AreNodes}
@@ -184,7 +184,7 @@ module _ (g : Graph) (kind : List ℕ) (way : Direction) (used : List RelId) whe
       ap₂ (spread_levels g kind way used (high - (level + 1))) at spread ∙ ap (λ k. spread_levels g kind way used k next mid) (sym left)
 
   -- these are the nodes to which so many lead, and from the first of them all was tried
-  record Level (high : ℕ) (at : NodeId) (next : ℕ) (ns : List NodeId) : Type 0 where
+  record Frame (high : ℕ) (at : NodeId) (next : ℕ) (ns : List NodeId) : Type 0 where
     pub distinct : all_distinct same_node ns ≡ true
     pub all : (n : NodeId) → list_any (same_node n) ns ≡ leads (suc high) at n
     pub tried : (n : NodeId) → list_any (λ m. steps m n) (take next ns) ≡ true → list_any (same_node n) ns ≡ true
@@ -205,7 +205,7 @@ module _ (g : Graph) (kind : List ℕ) (way : Direction) (used : List RelId) whe
       ∙ absorbed (list_any (same_node n) ns) (list_any (λ m. steps m n) (take next ns)) (list_any (λ m. steps m n) (drop next ns)) tried
       ∙ ap (λ b. list_any (same_node n) ns || b) (sym (list_any-append (λ m. steps m n) (take next ns) (drop next ns)) ∙ ap (list_any (λ m. steps m n)) (take-append-drop next ns))
 
-  next_level : (high : ℕ) (at : NodeId) (next : ℕ) (ns : List NodeId) → Level high at next ns → Level (suc high) at (length ns) (spread_each g kind way used ns (drop next ns))
+  next_level : (high : ℕ) (at : NodeId) (next : ℕ) (ns : List NodeId) → Frame high at next ns → Frame (suc high) at (length ns) (spread_each g kind way used ns (drop next ns))
   next_level high at next ns l =
       let longer = longer_each ns (drop next ns) in
       record {
@@ -215,7 +215,7 @@ module _ (g : Graph) (kind : List ℕ) (way : Direction) (used : List RelId) whe
             ∙ or_second (list_any (same_node n) ns) (list_any (λ m. steps m n) ns) (ap (list_any (λ m. steps m n)) (sym (ap (take (length ns)) longer.is ∙ take_whole ns longer.more)) ∙ h);
       }
 
-  levels : (more high : ℕ) (at : NodeId) (next : ℕ) (ns : List NodeId) → Level high at next ns → AreLedTo g kind way used (suc (high + more)) (Some at) (spread_levels g kind way used more next ns)
+  levels : (more high : ℕ) (at : NodeId) (next : ℕ) (ns : List NodeId) → Frame high at next ns → AreLedTo g kind way used (suc (high + more)) (Some at) (spread_levels g kind way used more next ns)
   levels zero high at next ns l = subst (λ k. AreLedTo g kind way used (suc k) (Some at) ns) (same high) (record { distinct = l.distinct; all = l.all })
     where
       same : (k : ℕ) → k ≡ k + 0
@@ -227,7 +227,7 @@ module _ (g : Graph) (kind : List ℕ) (way : Direction) (used : List RelId) whe
       same : (k m : ℕ) → suc k + m ≡ k + suc m
       same k m = omega arith
 
-  first_level : (at : NodeId) → Level 0 at 0 (spread_over g way used [] (met at))
+  first_level : (at : NodeId) → Frame 0 at 0 (spread_over g way used [] (met at))
   first_level at = record {
     distinct = distinct_over [] (met at) refl;
     all = λ n. any_at n [] at ∙ sym (one_leads g kind way used (Some at) n);

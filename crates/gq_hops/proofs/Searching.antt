@@ -15,7 +15,7 @@ use Rattle.gq_marks.specs.Marking.{bound_of}
 use Rattle.gq_hops.specs.steps.Hops.{AreTables, IsFirst, IsHop, IsLevel, IsLevelIn, IsSiteIn, IsStart, left_at, left_of, rel_of, same_site, tables_in}
 use Rattle.gq_hops.specs.steps.Searches.{IsEnd, IsLonger, IsNext, IsOpen, IsPassed, IsPassedTo, IsRoomy, IsSeen, IsSiteAt, IsSiteOf, IsSpent, IsTaken, Run, behind, kept_by, left_in, level_at, met_at, no_level, no_met, onto, owed_by, rel_at, rels_in, run_of, taken, with_level, with_step}
 use Rattle.gq_hops.specs.declared.follow.Hop.{Hop}
-use Rattle.gq_hops.specs.declared.follow.Level.{Level}
+use Rattle.gq_hops.specs.declared.follow.Frame.{Frame}
 use Rattle.gq_hops.specs.declared.follow.Met.{Met}
 use Rattle.gq_hops.specs.declared.search.Run as declared
 use Rattle.gq_hops.specs.declared.search.Search.{Search}
@@ -23,10 +23,10 @@ use Rattle.gq_hops.proofs.Owing.{AreSame, AreSameLevels, far_off, fresh_left, ba
 use Rattle.gq_hops.proofs.Sites.{rel_is, stands_by}
 use Rattle.gq_hops.proofs.Weights.{back_less, down_less, pass_less, skip_less, weight}
 
-pub set_level : (levels : List Level) (n : ℕ) (l : Level) → n < length levels → level_at (set levels n l) n ≡ l
+pub set_level : (levels : List Frame) (n : ℕ) (l : Frame) → n < length levels → level_at (set levels n l) n ≡ l
 set_level levels n l low = get_or-set_same levels n l no_level low
 
-other_levels : (levels : List Level) (n : ℕ) (l : Level) → AreSameLevels (set levels n l) levels n
+other_levels : (levels : List Frame) (n : ℕ) (l : Frame) → AreSameLevels (set levels n l) levels n
 other_levels levels n l i low = let other : i ≢ n = omega arith in get_or-set_other levels n i l no_level other
 
 other_rels : (rels : List RelId) (n : ℕ) (r : RelId) → AreSame (set rels n r) rels n
@@ -39,7 +39,7 @@ other_mets : (mets : List Met) (n : ℕ) (m : Met) (i : ℕ) → i < n → met_a
 other_mets mets n m i low = let other : i ≢ n = omega arith in get_or-set_other mets n i m no_met other
 
 -- where nothing was tried yet, all is left
-pub started : (k : Course) (l : Level) (at : NodeId) → IsStart at 0 l → left_in k l ≡ fresh_left k at
+pub started : (k : Course) (l : Frame) (at : NodeId) → IsStart at 0 l → left_in k l ≡ fresh_left k at
 started k l at start =
     ap (λ (n : NodeId). left_at k.graph k.kind k.way n l.table l.place) start.at_is ∙ ap₂ (left_at k.graph k.kind k.way at) start.table_is start.place_is
 
@@ -66,7 +66,7 @@ pub kept_none : (c : Run) (old : Search) → owed_by c old ≡ [] → kept_by c 
 kept_none c old none = ap (filter (comes c.course.graph c.course.way c.bounds None)) none
 
 -- a search that went on by what is met
-pub record IsStepped (high : ℕ) (old new : Search) (m : Met) (level : Level) : Type 0 where
+pub record IsStepped (high : ℕ) (old new : Search) (m : Met) (level : Frame) : Type 0 where
   pub mets : new.mets.items ≡ set old.mets.items old.depth m
   pub depth : new.depth ≡ suc old.depth
   pub last : new.last ≡ m.node
@@ -74,7 +74,7 @@ pub record IsStepped (high : ℕ) (old new : Search) (m : Met) (level : Level) :
   pub same : AreSameLevels new.levels.items old.levels.items (suc old.depth)
   pub next : suc old.depth < high → level_at new.levels.items (suc old.depth) ≡ level
 
-pub stepped : (high : ℕ) (s : Search) (m : Met) (l : Level) → IsRoomy s → high ≤ 16 → IsStepped high s (with_step high s m l) m l
+pub stepped : (high : ℕ) (s : Search) (m : Met) (l : Frame) → IsRoomy s → high ≤ 16 → IsStepped high s (with_step high s m l) m l
 stepped high s m l room few = go (cases_lt (s.depth + 1) high)
   where
     one : s.depth + 1 ≡ suc s.depth
@@ -140,7 +140,7 @@ module _ (r : declared.Run) (s : Search) (open_at : IsOpen (run_of r) s) where
 
   -- ---- another level at the end of the walk
 
-  module _ (low : s.depth < r.high) (level : Level) (fits : IsLevelIn r.follow.graph.now r.follow.kind.now r.follow.way level) where
+  module _ (low : s.depth < r.high) (level : Frame) (fits : IsLevelIn r.follow.graph.now r.follow.kind.now r.follow.way level) where
     abbrev put : Search
     put = with_level s s.depth level
 
@@ -170,7 +170,7 @@ module _ (r : declared.Run) (s : Search) (open_at : IsOpen (run_of r) s) where
 
   -- ---- a relationship is tried
 
-  module _ (low : s.depth < r.high) (level : Level) (h : Hop) (first : IsFirst r.follow (level_at s.levels.items s.depth) level h) where
+  module _ (low : s.depth < r.high) (level : Frame) (h : Hop) (first : IsFirst r.follow (level_at s.levels.items s.depth) level h) where
     abbrev mid : Search
     mid = with_level s s.depth level
 
@@ -205,7 +205,7 @@ module _ (r : declared.Run) (s : Search) (open_at : IsOpen (run_of r) s) where
     pub less_mid : weight (run_of r) (with_level s s.depth level).levels.items (suc s.depth) < weight (run_of r) s.levels.items (suc s.depth)
     less_mid = skip_less (run_of r) s.levels.items mid.levels.items s.depth h.rel low left_is under
 
-    module _ (free : list_any (same_rel h.rel) (taken r.used (rels_in (run_of r) s) s.depth) ≡ false) (m : Met) (at : IsHop r.follow m h) (site : IsSiteOf (run_of r) m) (new : Search) (l : Level)
+    module _ (free : list_any (same_rel h.rel) (taken r.used (rels_in (run_of r) s) s.depth) ≡ false) (m : Met) (at : IsHop r.follow m h) (site : IsSiteOf (run_of r) m) (new : Search) (l : Frame)
         (is : IsStepped r.high (with_level s s.depth level) new m l) (fits : suc s.depth < r.high → IsLevelIn c.course.graph c.course.kind c.course.way l) (start : suc s.depth < r.high → IsStart m.node 0 l) where
       leads : far c.course.graph c.course.way h.rel ≡ Some m.node
       leads = first.leads ∙ ap Some at.node
@@ -310,7 +310,7 @@ module _ (r : declared.Run) (s : Search) (open_at : IsOpen (run_of r) s) where
 
 -- of what is left at the end of the walk some is passed over
 module _ (r : declared.Run) (s : Search) (open_at : IsOpen (run_of r) s) (low : s.depth < r.high) where
-  abbrev kept_at : List Level → List (List RelId)
+  abbrev kept_at : List Frame → List (List RelId)
   kept_at levels = filter (comes r.follow.graph.now r.follow.way (bound_of r.bounds) None) (behind (run_of r) (rels_in (run_of r) s) levels (suc s.depth))
 
   pub none_over : IsLevelIn r.follow.graph.now r.follow.kind.now r.follow.way (level_at s.levels.items s.depth) → IsPassedTo r s (level_at s.levels.items s.depth)
@@ -321,13 +321,13 @@ module _ (r : declared.Run) (s : Search) (open_at : IsOpen (run_of r) s) (low : 
     kept = ap kept_at (sym (set-get_or s.levels.items s.depth no_level));
   }
 
-  module _ (level next : Level) (h : Hop) (first : IsFirst r.follow level next h) (are : AreBounds r.follow.graph.now r.follow.kind.now r.follow.way (bound_of r.bounds))
+  module _ (level next : Frame) (h : Hop) (first : IsFirst r.follow level next h) (are : AreBounds r.follow.graph.now r.follow.kind.now r.follow.way (bound_of r.bounds))
       (short : nat_lt (bound_of r.bounds h.node + s.depth) r.high ≡ false) (told : IsPassedTo r s level) where
     mid_open : IsOpen (run_of r) (with_level s s.depth level)
     mid_open = open_level r s open_at low level told.fits
 
     first_mid : IsFirst r.follow (level_at (with_level s s.depth level).levels.items s.depth) next h
-    first_mid = subst (λ (l : Level). IsFirst r.follow l next h) (sym (level_is r s open_at low level told.fits)) first
+    first_mid = subst (λ (l : Frame). IsFirst r.follow l next h) (sym (level_is r s open_at low level told.fits)) first
 
     pub one_over : IsPassedTo r s next
     one_over = record {
@@ -346,7 +346,7 @@ module _ (r : declared.Run) (s : Search) (open_at : IsOpen (run_of r) s) (low : 
 
     pub less_passed : weight (run_of r) new.levels.items (suc new.depth) ≤ weight (run_of r) s.levels.items (suc s.depth)
     less_passed =
-        let left = p.told.left ∙ ap (λ (l : Level). p.told.over ++ left_of r.follow l) (sym (level_is r s open_at low p.level p.told.fits)) in
+        let left = p.told.left ∙ ap (λ (l : Frame). p.told.over ++ left_of r.follow l) (sym (level_is r s open_at low p.level p.told.fits)) in
         subst (λ (n : Search). weight (run_of r) n.levels.items (suc n.depth) ≤ weight (run_of r) s.levels.items (suc s.depth)) (sym p.is)
         (pass_less (run_of r) s.levels.items (with_level s s.depth p.level).levels.items s.depth p.told.over left (below r s open_at low p.level p.told.fits))
 
@@ -370,7 +370,7 @@ module _ (r : declared.Run) (s mid : Search) (m : Met) (open_at : IsOpen (run_of
       (stands_by g (tables_in g r.follow.kind.now way) way m site_is s.mets.items s.depth inside open_at.sites)
       ∙ sym (told ∙ ap (λ (n : Search). list_any (same_site m) (take n.depth n.mets.items) || list_any (same_rel seen.hop.rel) r.used) t.is)
 
-  pub stepped_new : (new : Search) (l : Level) → new ≡ with_step r.high mid m l → IsStepped r.high (with_level s s.depth t.level) new m l
+  pub stepped_new : (new : Search) (l : Frame) → new ≡ with_step r.high mid m l → IsStepped r.high (with_level s s.depth t.level) new m l
   stepped_new new l is =
       subst (λ n. IsStepped r.high (with_level s s.depth t.level) n m l) (sym (is ∙ ap (λ (n : Search). with_step r.high n m l) t.is))
       (stepped r.high (with_level s s.depth t.level) m l (roomy_mid r s open_at t.low t.level seen.hop t.first) open_at.high)

@@ -22,7 +22,7 @@ use Rattle.gq_hops.specs.Levels.{is_met}
 use Rattle.gq_hops.specs.steps.Hops.{IsFirst, IsStart, left_at, left_of}
 use Rattle.gq_hops.specs.declared.follow.Follow.{Follow}
 use Rattle.gq_hops.specs.declared.follow.Hop.{Hop}
-use Rattle.gq_hops.specs.declared.follow.Level.{Level}
+use Rattle.gq_hops.specs.declared.follow.Frame.{Frame}
 use Rattle.gq_hops.proofs.Aiming.{at_filter}
 use Rattle.gq_hops.proofs.Hopping.{all_met}
 
@@ -76,7 +76,7 @@ inside_at g (n ∷ ns) (suc i) d low inside = inside_at g ns i d (omega arith) i
 -- ---- the relationships at a node
 
 module _ (f : Follow) (n : NodeId) where
-  pub under_start : (m : Marking) (l : Level) → IsStart n 0 l → IsUnderWay f m n l
+  pub under_start : (m : Marking) (l : Frame) → IsStart n 0 l → IsUnderWay f m n l
   under_start m l start = record {
     done = [];
     all = sym (ap (λ (k : NodeId). left_at f.graph.now f.kind.now f.way k l.table l.place) start.at_is ∙ ap₂ (left_at f.graph.now f.kind.now f.way n) start.table_is start.place_is);
@@ -86,7 +86,7 @@ module _ (f : Follow) (n : NodeId) where
   still_hit : (mark : ℕ) (m new : Marking) → IsSpread mark m new → (r : RelId) → IsHit f.graph.now f.way m r → IsHit f.graph.now f.way new r
   still_hit mark m new spread r hit k leads = ap (λ i. not (nat_eq i 255)) (spread.stays k (hit k leads)) ∙ hit k leads
 
-  pub under_next : (mark : ℕ) (m new : Marking) (l next : Level) (h : Hop) → IsUnderWay f m n l → IsFirst f l next h → IsSpread mark m new → is_marked new h.node ≡ true → IsUnderWay f new n next
+  pub under_next : (mark : ℕ) (m new : Marking) (l next : Frame) (h : Hop) → IsUnderWay f m n l → IsFirst f l next h → IsSpread mark m new → is_marked new h.node ≡ true → IsUnderWay f new n next
   under_next mark m new l next h under first spread marked = record {
     done = under.done ++ h.rel ∷ [];
     all = under.all ∙ ap (λ rs. under.done ++ rs) first.left ∙ sym (append_assoc under.done (h.rel ∷ []) (left_of f next));
@@ -95,7 +95,7 @@ module _ (f : Follow) (n : NodeId) where
         (λ k leads. (let both : Some h.node ≡ Some k = sym first.leads ∙ leads in let same : h.node ≡ k = cc both in subst (λ i. is_marked new i ≡ true) same marked), tt);
   }
 
-  pub under_over : (m : Marking) (l : Level) → IsUnderWay f m n l → left_of f l ≡ [] → AreHit f m n
+  pub under_over : (m : Marking) (l : Frame) → IsUnderWay f m n l → left_of f l ≡ [] → AreHit f m n
   under_over m l under none = subst (AllByRecursion (IsHit f.graph.now f.way m)) (sym (under.all ∙ ap (λ rs. under.done ++ rs) none ∙ append-nil under.done)) under.hit
 
 -- ---- followed the other way

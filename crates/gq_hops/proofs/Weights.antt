@@ -7,7 +7,7 @@ use Rattle.gq_plan.specs.Meaning.{far}
 use Rattle.gq_hops.specs.Walking.{Course}
 use Rattle.gq_hops.specs.Levels.{met_all}
 use Rattle.gq_hops.specs.steps.Searches.{Run, left_in, level_at}
-use Rattle.gq_hops.specs.declared.follow.Level.{Level}
+use Rattle.gq_hops.specs.declared.follow.Frame.{Frame}
 use Rattle.gq_hops.proofs.Owing.{AreSameLevels, fresh_left}
 use Rattle.gq_hops.proofs.Hopping.{all_met}
 
@@ -25,7 +25,7 @@ unfoldable pub level_weight : Course → ℕ → List RelId → ℕ
 level_weight k zero rs = 0
 level_weight k (suc h) rs = each (λ r. suc (node_weight k h (far k.graph k.way r))) rs
 
-unfoldable pub weight : Run → List Level → ℕ → ℕ
+unfoldable pub weight : Run → List Frame → ℕ → ℕ
 weight c levels zero = 0
 weight c levels (suc n) = suc (level_weight c.course (c.course.high - n) (left_in c.course (level_at levels n))) + weight c levels n
 
@@ -42,13 +42,13 @@ no_weight : (k : Course) (high : ℕ) (rs : List RelId) → high ≡ 0 → level
 unfolding level_weight
 no_weight k high rs e = rw e refl
 
-weight_alike : (c : Run) (levels others : List Level) (n : ℕ) → AreSameLevels others levels n → weight c others n ≡ weight c levels n
+weight_alike : (c : Run) (levels others : List Frame) (n : ℕ) → AreSameLevels others levels n → weight c others n ≡ weight c levels n
 unfolding weight
 weight_alike c levels others zero alike = refl
 weight_alike c levels others (suc n) alike =
     ap₂ (λ l m. suc (level_weight c.course (c.course.high - n) (left_in c.course l)) + m) (alike n (omega arith)) (weight_alike c levels others n (λ i low. alike i (omega arith)))
 
-pub back_less : (c : Run) (levels : List Level) (d : ℕ) → weight c levels d < weight c levels (suc d)
+pub back_less : (c : Run) (levels : List Frame) (d : ℕ) → weight c levels d < weight c levels (suc d)
 unfolding weight
 back_less c levels d = omega arith
 
@@ -70,7 +70,7 @@ level_less k (suc h) over rs =
     less
 
 -- of what is left some is passed over
-pub pass_less : (c : Run) (levels others : List Level) (d : ℕ) (over : List RelId) → left_in c.course (level_at levels d) ≡ over ++ left_in c.course (level_at others d) → AreSameLevels others levels d
+pub pass_less : (c : Run) (levels others : List Frame) (d : ℕ) (over : List RelId) → left_in c.course (level_at levels d) ≡ over ++ left_in c.course (level_at others d) → AreSameLevels others levels d
     → weight c others (suc d) ≤ weight c levels (suc d)
 unfolding weight
 pass_less c levels others d over left alike =
@@ -78,7 +78,7 @@ pass_less c levels others d over left alike =
     let here = ap (level_weight c.course (c.course.high - d)) left in
     omega (arith, less, here, weight_alike c levels others d alike)
 
-module _ (c : Run) (levels others : List Level) (d : ℕ) (r : RelId) (low : d < c.course.high)
+module _ (c : Run) (levels others : List Frame) (d : ℕ) (r : RelId) (low : d < c.course.high)
     (first : left_in c.course (level_at levels d) ≡ r ∷ left_in c.course (level_at others d)) (alike : AreSameLevels others levels d) where
   abbrev h : ℕ
   h = c.course.high - suc d

@@ -48,7 +48,7 @@ pub(crate) struct Follow<'g> {
 /// A node, and the relationship at it that is to be tried next: a table of the type, by its number
 /// among these, the rows to which the node's relationships of this table lead, and a place there.
 #[derive(Clone, Copy)]
-pub(crate) struct Level<'g> {
+pub(crate) struct Frame<'g> {
     pub(crate) at: NodeId,
     pub(crate) table: usize,
     pub(crate) near: Near<'g>,
@@ -118,13 +118,13 @@ fn far_end(table: &RelTable, way: Direction) -> u32
 }
 
 /// A node where no relationship of a table was tried yet.
-pub(crate) fn level_at<'g>(follow: &Follow<'g>, at: NodeId, table: usize) -> Level<'g>
+pub(crate) fn level_at<'g>(follow: &Follow<'g>, at: NodeId, table: usize) -> Frame<'g>
     requires tables { AreTables follow.now }
     requires node { is_node follow.now.graph.now at ≡ true }
     ensures level { IsLevel follow.now result }
     ensures start { IsStart at table result }
 {
-    Level {
+    Frame {
         at,
         table,
         near: near_of(follow, at, table),
@@ -151,7 +151,7 @@ fn near_of<'g>(follow: &Follow<'g>, at: NodeId, table: usize) -> Near<'g>
 }
 
 /// The next relationship at a node, if there is one.
-pub(crate) fn next_met<'g>(follow: &Follow<'g>, level: &mut Level<'g>) -> Option<Met>
+pub(crate) fn next_met<'g>(follow: &Follow<'g>, level: &mut Frame<'g>) -> Option<Met>
     requires tables { AreTables follow.now }
     requires level { IsLevel follow.now level.old }
     ensures { IsNextMet follow.now level.old level.new result }
@@ -169,7 +169,7 @@ pub(crate) fn next_met<'g>(follow: &Follow<'g>, level: &mut Level<'g>) -> Option
 }
 
 /// The relationship at a level's place, if its table has one there.
-pub(crate) fn met_here(follow: &Follow<'_>, level: &Level<'_>) -> Option<Met>
+pub(crate) fn met_here(follow: &Follow<'_>, level: &Frame<'_>) -> Option<Met>
     requires tables { AreTables follow.now }
     requires level { IsLevel follow.now level.now }
     ensures { IsMetHere follow.now level.now result }

@@ -10,7 +10,7 @@ ghost use Rattle.gq_hops.specs.steps.Hops.{AreTables, IsHop, IsSite, same_site};
 ghost use Rattle.gq_hops.specs.steps.Searches.{run_of, IsBegun, IsRoomy, IsOpen, IsTried};
 ghost use Rattle.gq_hops.specs.steps.Searches.{IsLonger, IsPassed, IsPassedTo, IsSearched, rels_in};
 
-use crate::follow::{Follow, Level, Met, hop_of, level_at, met_here, next_met};
+use crate::follow::{Follow, Frame, Met, hop_of, level_at, met_here, next_met};
 use crate::hop::Near;
 use crate::reach::is_used;
 use crate::used::Used;
@@ -36,7 +36,7 @@ pub(crate) struct Run<'g> {
 #[derive(Drop)]
 pub(crate) struct Search<'g> {
     // The node at each depth of the walk, and what is to be tried there next.
-    levels: Vec<Level<'g>>,
+    levels: Vec<Frame<'g>>,
     // Where the relationships of the walk stand. Which ones they are, their load numbers, is read
     // where it is asked.
     mets: Vec<Met>,
@@ -57,7 +57,7 @@ impl<'g> Search<'g> {
             place: 0,
             node,
         };
-        let level = Level {
+        let level = Frame {
             at: node,
             table: 0,
             near: Near::One(None),
@@ -176,7 +176,7 @@ impl<'g> Search<'g> {
 
     // The level at the end of the walk from the first relationship on that leads on there, or from
     // where its table has no more.
-    fn passed(&self, run: &Run<'g>) -> Level<'g>
+    fn passed(&self, run: &Run<'g>) -> Frame<'g>
         requires tables { AreTables run.now.follow }
         requires open { IsOpen (run_of run.now) self.now }
         requires low { self.now.depth < run.now.high }

@@ -10,7 +10,7 @@ use Rattle.gq_marks.specs.Marking.{Marking, is_marked, mark_at}
 use Rattle.gq_plan.specs.Assignments.{all_rels, is_node}
 use Rattle.gq_plan.specs.Meaning.{far, near}
 use Rattle.gq_hops.specs.declared.follow.Follow.{Follow}
-use Rattle.gq_hops.specs.declared.follow.Level.{Level}
+use Rattle.gq_hops.specs.declared.follow.Frame.{Frame}
 use Rattle.gq_hops.specs.steps.Hops.{left_at, left_of}
 
 -- where a relationship leads, there is a mark
@@ -22,7 +22,7 @@ abbrev pub AreHit : Follow → Marking → NodeId → Type 0
 AreHit f m n = AllByRecursion (IsHit f.graph.now f.way m) (left_at f.graph.now f.kind.now f.way n 0 0)
 
 -- of the relationships at a node, some are done, and where they lead there are marks
-pub record IsUnderWay (f : Follow) (m : Marking) (n : NodeId) (l : Level) : Type 0 where
+pub record IsUnderWay (f : Follow) (m : Marking) (n : NodeId) (l : Frame) : Type 0 where
   pub done : List RelId
   pub all : left_at f.graph.now f.kind.now f.way n 0 0 ≡ done ++ left_of f l
   pub hit : AllByRecursion (IsHit f.graph.now f.way m) done

@@ -14,7 +14,7 @@ use Rattle.gq_plan.specs.Meaning.{far}
 use Rattle.gq_store.specs.Neighbours.{near_rows, neighbours, numbers}
 use Rattle.gq_hops.specs.declared.follow.Follow.{Follow}
 use Rattle.gq_hops.specs.declared.follow.Hop.{Hop}
-use Rattle.gq_hops.specs.declared.follow.Level.{Level}
+use Rattle.gq_hops.specs.declared.follow.Frame.{Frame}
 use Rattle.gq_hops.specs.declared.follow.Met.{Met}
 use Rattle.gq_hops.specs.declared.hop.Near.{Near}
 use Rattle.gq_hops.specs.declared.follow.Followed.{Followed}
@@ -61,7 +61,7 @@ left_from g kind way at place (e ∷ es) = drop place (met_in g kind way (Some a
 unfoldable pub left_at : Graph → List ℕ → Direction → NodeId → ℕ → ℕ → List RelId
 left_at g kind way at table place = left_from g kind way at place (drop table (tables_in g kind way))
 
-abbrev pub left_of : Follow → Level → List RelId
+abbrev pub left_of : Follow → Frame → List RelId
 left_of f l = left_at f.graph.now f.kind.now f.way l.at l.table l.place
 
 -- the rows to which relationships of a table lead from a node
@@ -81,21 +81,21 @@ abbrev pub IsNear : Follow → NodeId → ℕ → Near → Type 0
 IsNear f at table near = IsNearIn f.graph.now f.kind.now f.way at table near
 
 -- a level is at a node of the graph, and has the rows there
-pub record IsLevelIn (g : Graph) (kind : List ℕ) (way : Direction) (l : Level) : Type 0 where
+pub record IsLevelIn (g : Graph) (kind : List ℕ) (way : Direction) (l : Frame) : Type 0 where
   pub node : is_node g l.at ≡ true
   pub near : IsNearIn g kind way l.at l.table l.near
 
-abbrev pub IsLevel : Follow → Level → Type 0
+abbrev pub IsLevel : Follow → Frame → Type 0
 IsLevel f l = IsLevelIn f.graph.now f.kind.now f.way l
 
 -- nothing of a table was tried yet at a node
-pub record IsStart (at : NodeId) (table : ℕ) (l : Level) : Type 0 where
+pub record IsStart (at : NodeId) (table : ℕ) (l : Frame) : Type 0 where
   pub at_is : l.at ≡ at
   pub table_is : l.table ≡ table
   pub place_is : l.place ≡ 0
 
 -- the first of what is left, with the node to which it leads
-pub record IsFirst (f : Follow) (old new : Level) (h : Hop) : Type 0 where
+pub record IsFirst (f : Follow) (old new : Frame) (h : Hop) : Type 0 where
   pub level : IsLevel f new
   pub left : left_of f old ≡ h.rel ∷ left_of f new
   pub leads : far f.graph.now f.way h.rel ≡ Some h.node
@@ -130,20 +130,20 @@ pub record IsHop (f : Follow) (m : Met) (h : Hop) : Type 0 where
   pub node : h.node ≡ m.node
 
 -- the first of what is left, where it stands
-pub record IsMetNext (f : Follow) (old new : Level) (m : Met) : Type 0 where
+pub record IsMetNext (f : Follow) (old new : Frame) (m : Met) : Type 0 where
   pub hop : Hop
   pub is : IsHop f m hop
   pub site : IsSite f m
   pub first : IsFirst f old new hop
 
-abbrev pub IsNextMet : Follow → Level → Level → Option Met → Type 0
+abbrev pub IsNextMet : Follow → Frame → Frame → Option Met → Type 0
 IsNextMet f old new found = MatchOption found (left_of f old ≡ []) (IsMetNext f old new)
 
 -- the first of what is left stands at the level's place
-pub record IsHere (f : Follow) (l : Level) (m : Met) : Type 0 where
+pub record IsHere (f : Follow) (l : Frame) (m : Met) : Type 0 where
   pub next : IsMetNext f l (record l { place = l.place + 1 }) m
   pub few : l.place + 1 < 2 ^ 32
 
 -- if its table has one there; else only what the tables behind have is left
-abbrev pub IsMetHere : Follow → Level → Option Met → Type 0
+abbrev pub IsMetHere : Follow → Frame → Option Met → Type 0
 IsMetHere f l found = MatchOption found (left_of f l ≡ left_at f.graph.now f.kind.now f.way l.at (l.table + 1) 0) (IsHere f l)

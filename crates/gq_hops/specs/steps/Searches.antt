@@ -12,7 +12,7 @@ use Rattle.gq_hops.specs.Walking.{Course}
 use Rattle.gq_marks.specs.Marking.{bound_of}
 use Rattle.gq_hops.specs.steps.Hops.{IsFirst, IsHop, IsLevel, IsLevelIn, IsSite, IsSiteIn, IsStart, left_at, left_of, rel_of, tables_in}
 use Rattle.gq_hops.specs.declared.follow.Hop.{Hop}
-use Rattle.gq_hops.specs.declared.follow.Level.{Level}
+use Rattle.gq_hops.specs.declared.follow.Frame.{Frame}
 use Rattle.gq_hops.specs.declared.follow.Met.{Met}
 use Rattle.gq_hops.specs.declared.hop.Near.TheVariants.{One}
 use Rattle.gq_hops.specs.declared.search.Run as declared
@@ -37,7 +37,7 @@ no_node = record { table = 0; row = 0 }
 abbrev pub no_met : Met
 no_met = record { table = 0; near = 0; place = 0; node = no_node }
 
-abbrev pub no_level : Level
+abbrev pub no_level : Frame
 no_level = record { at = no_node; table = 0; near = One None; place = 0 }
 
 -- the relationship and the level at a depth, and where the relationship stands
@@ -47,7 +47,7 @@ rel_at rels n = get_or rels n (record { table = 0; row = 0 })
 abbrev pub met_at : List Met → ℕ → Met
 met_at mets n = get_or mets n no_met
 
-abbrev pub level_at : List Level → ℕ → Level
+abbrev pub level_at : List Frame → ℕ → Frame
 level_at levels n = get_or levels n no_level
 
 -- ---- what is owed
@@ -69,15 +69,15 @@ after c low (suc high) used rs =
     flat_map (λ r. map (λ l. r ∷ l) (walks c.graph c.kind c.way (pred low) high (far c.graph c.way r) (r ∷ used)))
     (filter (λ r. not (list_any (same_rel r) used)) rs)
 
-abbrev pub left_in : Course → Level → List RelId
+abbrev pub left_in : Course → Frame → List RelId
 left_in c l = left_at c.graph c.kind c.way l.at l.table l.place
 
 -- what is owed by the level at a depth, and by all levels above it
-abbrev pub ahead : Run → List RelId → List Level → ℕ → List (List RelId)
+abbrev pub ahead : Run → List RelId → List Frame → ℕ → List (List RelId)
 ahead c rels levels n =
     map (onto rels n) (after c.course (c.course.low - n) (c.course.high - n) (taken c.used rels n) (left_in c.course (level_at levels n)))
 
-unfoldable pub behind : Run → List RelId → List Level → ℕ → List (List RelId)
+unfoldable pub behind : Run → List RelId → List Frame → ℕ → List (List RelId)
 behind c rels levels zero = []
 behind c rels levels (suc n) = ahead c rels levels n ++ behind c rels levels n
 
@@ -113,25 +113,25 @@ pub record IsOpen (c : Run) (s : Search) : Type 0 where
   pub levels : (i : ℕ) → i ≤ s.depth → i < c.course.high → IsLevelIn c.course.graph c.course.kind c.course.way (level_at s.levels.items i)
   pub sites : (i : ℕ) → i < s.depth → IsSiteAt c s i
 
-abbrev pub with_level : Search → ℕ → Level → Search
+abbrev pub with_level : Search → ℕ → Frame → Search
 with_level s n l = record s { levels = with_item s.levels n l }
 
 -- the walk is longer by a relationship, and may have a level at its end
-abbrev pub with_step : ℕ → Search → Met → Level → Search
+abbrev pub with_step : ℕ → Search → Met → Frame → Search
 with_step high s m l =
     let longer : Search = record s { mets = with_item s.mets s.depth m; depth = s.depth + 1; last = m.node } in
     if nat_lt (s.depth + 1) high then with_level longer (s.depth + 1) l else longer
 
 -- nothing is walked yet from a node
 pub record IsBegun (r : declared.Run) (at : NodeId) (old new : Search) : Type 0 where
-  pub level : Level
+  pub level : Frame
   pub is : new ≡ with_level (record old { depth = 0 }) 0 level
   pub fits : IsLevel r.follow level
   pub start : IsStart at 0 level
 
 -- nothing was tried yet at the end of the longer walk
 pub record IsLonger (r : declared.Run) (old new : Search) (m : Met) : Type 0 where
-  pub level : Level
+  pub level : Frame
   pub is : new ≡ with_step r.high old m level
   pub fits : old.depth + 1 < r.high → IsLevel r.follow level
   pub start : old.depth + 1 < r.high → IsStart m.node 0 level
@@ -142,21 +142,21 @@ pub record IsSpent (r : declared.Run) (old new : Search) : Type 0 where
   pub none : r.high ≤ old.depth ⊎ (left_of r.follow (level_at old.levels.items old.depth) ≡ [])
 
 -- of what is left at the end of the walk, some was passed over: no walk that begins with it ends where it may
-pub record IsPassedTo (r : declared.Run) (s : Search) (level : Level) : Type 0 where
+pub record IsPassedTo (r : declared.Run) (s : Search) (level : Frame) : Type 0 where
   pub fits : IsLevel r.follow level
   pub over : List RelId
   pub left : left_of r.follow (level_at s.levels.items s.depth) ≡ over ++ left_of r.follow level
   pub kept : kept_by (run_of r) s ≡ kept_by (run_of r) (with_level s s.depth level)
 
 pub record IsPassed (r : declared.Run) (old new : Search) : Type 0 where
-  pub level : Level
+  pub level : Frame
   pub is : new ≡ with_level old old.depth level
   pub told : IsPassedTo r old level
 
 -- the next relationship there
 pub record IsTaken (r : declared.Run) (old new : Search) (h : Hop) : Type 0 where
   pub low : old.depth < r.high
-  pub level : Level
+  pub level : Frame
   pub is : new ≡ with_level old old.depth level
   pub first : IsFirst r.follow (level_at old.levels.items old.depth) level h
 

@@ -2,7 +2,7 @@ use Rattle.std.proofs.Common.{◌≡◌, ◌<◌, ◌+◌, ◌∙◌, nat_lt, fa
 use Rattle.std.proofs.lemmas.List.{get_or_default}
 use Rattle.gq_base.specs.declared.NodeId.{NodeId}
 use Rattle.gq_marks.specs.Marking.{bound_of}
-use Rattle.gq_hops.specs.declared.follow.Level.{Level}
+use Rattle.gq_hops.specs.declared.follow.Frame.{Frame}
 use Rattle.gq_hops.specs.declared.search.Search.{Search}
 use Rattle.gq_hops.specs.steps.Hops.{IsHere}
 use Rattle.gq_hops.specs.steps.Searches.{IsPassedTo, level_at, no_level}
@@ -21,7 +21,7 @@ pub hops-preserved : goal.hops-preserved
 hops-preserved c =
     let r = c.args.run.now in
     let s : Search = c.args.self.now in
-    let level : Level = c.hops.level in
+    let level : Frame = c.hops.level in
     let here : IsHere r.follow level c.in-Some.met = c.in-Some.ensures in
     let next = here.next in
     let short : nat_lt (bound_of r.bounds next.hop.node + s.depth) r.high ≡ false =
