@@ -1,2 +1,4 @@
+mod Barred
 mod Columns
 mod Staying
+mod Written

@@ -1,3 +1,4 @@
+pub mod Behind
 pub mod Numbers
 pub mod Properties
 pub mod steps

@@ -1,11 +1,17 @@
 //! A list of values, each kept as a number and the place of its source.
-ghost use Rattle.std.specs.Prelude.{◌≡◌, ◌++◌, ◌∷◌, ◌<◌, [], IfOk, IsTrue, OnOk, length, slice_get};
-ghost use Rattle.std.specs.Prelude.{nat_eq, slice_index_or};
+ghost use Rattle.std.specs.Prelude.{◌≡◌, ℕ, ◌+◌, ◌*◌, ◌++◌, ◌∷◌, ◌<◌, ◌≤◌, [], IfOk, IsTrue, OnOk, Some};
+ghost use Rattle.std.specs.Prelude.{length, nat_eq, slice_get, slice_index, slice_index_or, true};
 ghost use Rattle.gq_base.specs.Values.{null, val};
+ghost use Rattle.gq_base.specs.declared.value.Value.TheVariants as value;
+ghost use Rattle.gq_bits.specs.Places.{is_marked};
+ghost use Rattle.gq_cells.specs.Behind.{IsBehindBar};
 ghost use Rattle.gq_cells.specs.Numbers.{IsNumber, number_val};
+ghost use Rattle.gq_cells.specs.steps.Inner.{cell_of};
 
+use crate::behind::{WINDOW, behind};
 use crate::source::Source;
-use gq_base::{Memory, Value};
+use gq_base::{Kind, Memory, Value};
+use gq_bits::Marks;
 use std::alloc::Global;
 use std::marker::Model;
 
@@ -81,6 +87,31 @@ impl<'g> Cells<'g> {
         self.sources[source as usize].value(number)
     }
 
+    /// Of at most `WINDOW` numbers from one on, those are marked, by how far they stand from it, whose
+    /// values by the source at a place are found to come behind the bar.
+    pub fn behind(&self, source: u32, first: u32, count: u32, down: bool, bar: &Value<'_>) -> Marks
+        requires few { count ≤ WINDOW }
+        requires numbers { (k : ℕ) → k < count
+            → IsNumber (slice_get self.now.sources source) (first + k) }
+        ensures { (k : ℕ) → is_marked result k ≡ true → (k < count)
+            × IsBehindBar down (val bar.now)
+            (number_val (slice_get self.now.sources source) (first + k)) }
+    {
+        match self.sources.get(source as usize) {
+            None => Marks::none(),
+            Some(source) => behind(source, first, count, down, bar),
+        }
+    }
+
+    /// Whether the source at a place is a property of integers.
+    pub fn has_integers(&self, source: u32) -> bool {
+        match self.sources.get(source as usize) {
+            Some(Source::Property(property)) => is_integer(property.kind()),
+            Some(Source::Value(_)) | Some(Source::Node(_)) | Some(Source::Rel { .. }) | None =>
+                false,
+        }
+    }
+
     /// How many values there are.
     pub fn len(&self) -> usize
         ensures { result ≡ length self.now.values }
@@ -117,5 +148,80 @@ impl<'g> Cells<'g> {
     {
         let cell = self.cells[index];
         self.sources[cell.source as usize].value(cell.number)
+    }
+
+    /// Reads values that stand so many places from one another, from a place on: in one loop, where
+    /// one source has all of them.
+    pub fn values(&self, first: usize, step: usize, count: usize, out: &mut [Value<'g>; 64])
+        requires few { count ≤ 64 }
+        requires within { (k : ℕ) → k < count → first + k * step < length self.now.values }
+        ensures { (k : ℕ) → k < count → val (slice_index_or out.new k value.Null)
+            ≡ slice_index_or self.now.values (first + k * step) null }
+    {
+        if count == 0 {
+            return;
+        }
+        let source = self.cells[first].source;
+        let mut numbers = [0; 64];
+        if numbers_of(
+            self.cells.as_slice(),
+            first,
+            step,
+            count,
+            source,
+            &mut numbers,
+        ) {
+            self.sources[source as usize].values(&numbers, count, out);
+        } else {
+            self.values_each(first, step, count, out);
+        }
+    }
+
+    // The same, each by its own source.
+    fn values_each(&self, first: usize, step: usize, count: usize, out: &mut [Value<'g>; 64])
+        requires few { count ≤ 64 }
+        requires within { (k : ℕ) → k < count → first + k * step < length self.now.values }
+        ensures { (k : ℕ) → k < count → val (slice_index_or out.new k value.Null)
+            ≡ slice_index_or self.now.values (first + k * step) null }
+    {
+        // For the arithmetic: their number fits 64 bits.
+        let _ = self.len();
+        for place in 0..count {
+            out[place] = self.value(first + place * step);
+        }
+    }
+}
+
+// Copies the numbers of cells that stand so many places from one another, from a place on. Where
+// one of them has another source, the answer is false.
+fn numbers_of(
+    cells: &[Cell],
+    first: usize,
+    step: usize,
+    count: usize,
+    source: u32,
+    numbers: &mut [u32; 64],
+) -> bool
+    requires few { count ≤ 64 }
+    requires within { (k : ℕ) → k < count → first + k * step < length cells.now }
+    ensures { IsTrue result → (k : ℕ) → k < count → slice_get cells.now (first + k * step)
+        ≡ Some (cell_of source (slice_index numbers.new k)) }
+{
+    // For the arithmetic: their number fits 64 bits.
+    let _ = cells.len();
+    for place in 0..count {
+        let cell = cells[first + place * step];
+        if cell.source != source {
+            return false;
+        }
+        numbers[place] = cell.number;
+    }
+    true
+}
+
+fn is_integer(kind: Kind) -> bool {
+    match kind {
+        Kind::Int => true,
+        Kind::Flag | Kind::Str => false,
     }
 }

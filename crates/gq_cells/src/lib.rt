@@ -4,10 +4,12 @@
 //! and `gq_dict`.
 #![tactic(auto)]
 
+mod behind;
 mod cells;
 mod property;
 mod source;
 
+pub use behind::WINDOW;
 pub use cells::Cells;
 pub use property::{node_property, rel_places, rel_property};
 pub use source::Source;

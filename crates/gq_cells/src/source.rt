@@ -1,14 +1,13 @@
 //! What the numbers of cells stand for.
-ghost use Rattle.std.specs.Prelude.{◌≡◌, ◌<◌, None, Some, length, slice_index_or};
+ghost use Rattle.std.specs.Prelude.{◌≡◌, ℕ, ◌<◌, ◌≤◌, None, Some, length, slice_index, slice_index_or};
 ghost use Rattle.gq_base.specs.Plain.{cell_val};
 ghost use Rattle.gq_base.specs.Values.{val};
+ghost use Rattle.gq_base.specs.declared.value.Value.TheVariants as value;
 ghost use Rattle.gq_cells.specs.Numbers.{IsNumber, source_val};
-ghost use Rattle.gq_store.specs.Columns.{IsKept, cell_of};
+ghost use Rattle.gq_store.specs.Columns.{decoded};
 
-use gq_base::{Kind, NodeId, RelId, Value};
-use gq_column::Column;
-use gq_dict::Dict;
-use gq_store::Graph;
+use gq_base::{NodeId, RelId, Value};
+use gq_store::{Graph, Property};
 
 /// What a number stands for.
 #[derive(Clone, Copy)]
@@ -18,17 +17,9 @@ pub enum Source<'g> {
     /// The node of this table in the row of the number.
     Node(u32),
     /// The relationship of this table at the place of the number.
-    Rel {
-        graph: &'g Graph,
-        table: u32,
-    },
-    /// The cell of a property of this kind at the number, which is a row or a place. A text has its
-    /// code of the dictionary in the column.
-    Property {
-        column: &'g Column,
-        dict: &'g Dict,
-        kind: Kind,
-    },
+    Rel { graph: &'g Graph, table: u32 },
+    /// The cell of this property at the number, which is a row or a place.
+    Property(&'g Property),
 }
 
 impl<'g> Source<'g> {
@@ -45,23 +36,52 @@ impl<'g> Source<'g> {
                 let row = graph.edge_number(table, number);
                 Value::Rel(RelId { table, row })
             }
-            Source::Property { column, dict, kind } => cell_value(column, dict, kind, number),
+            Source::Property(property) => property.value(number),
+        }
+    }
+
+    /// What numbers stand for, each in its place.
+    pub(crate) fn values(&self, numbers: &[u32; 64], count: usize, out: &mut [Value<'g>; 64])
+        requires few { count ≤ 64 }
+        requires numbers { (k : ℕ) → k < count →
+            IsNumber (Some self.now) (slice_index numbers.now k) }
+        ensures { (k : ℕ) → k < count → val (slice_index_or out.new k value.Null)
+            ≡ source_val self.now (slice_index numbers.now k) }
+    {
+        match *self {
+            Source::Property(property) => property_values(property, numbers, count, out),
+            _ => self.values_each(numbers, count, out),
+        }
+    }
+
+    // The same, whatever the source is.
+    fn values_each(&self, numbers: &[u32; 64], count: usize, out: &mut [Value<'g>; 64])
+        requires few { count ≤ 64 }
+        requires numbers { (k : ℕ) → k < count →
+            IsNumber (Some self.now) (slice_index numbers.now k) }
+        ensures { (k : ℕ) → k < count → val (slice_index_or out.new k value.Null)
+            ≡ source_val self.now (slice_index numbers.now k) }
+    {
+        for place in 0..count {
+            out[place] = self.value(numbers[place]);
         }
     }
 }
 
-// The value of a cell of a property, or null.
-#[inline(always)]
-fn cell_value<'g>(column: &'g Column, dict: &'g Dict, kind: Kind, row: u32) -> Value<'g>
-    requires kept { IsKept kind dict.now column.now }
-    requires row { row < length column.now }
-    ensures { val result
-        ≡ cell_val (cell_of kind dict.now (slice_index_or column.now row None)) }
+// The values of a property at numbers, each in its place.
+fn property_values<'g>(
+    property: &'g Property,
+    numbers: &[u32; 64],
+    count: usize,
+    out: &mut [Value<'g>; 64],
+)
+    requires few { count ≤ 64 }
+    requires numbers { (k : ℕ) → k < count →
+        slice_index numbers.now k < length (decoded property.now) }
+    ensures { (k : ℕ) → k < count → val (slice_index_or out.new k value.Null)
+        ≡ cell_val (slice_index_or (decoded property.now) (slice_index numbers.now k) None) }
 {
-    match (column.get(row), kind) {
-        (None, _) => Value::Null,
-        (Some(value), Kind::Int) => Value::Int(value),
-        (Some(value), Kind::Flag) => Value::Flag(value != 0),
-        (Some(code), Kind::Str) => Value::Str(dict.text(code as u32)),
+    for place in 0..count {
+        out[place] = property.value(numbers[place]);
     }
 }

@@ -1,11 +1,14 @@
 -- What the fields of cells stand for.
-use Rattle.std.specs.Prelude.{List, map, slice_get}
+use Rattle.std.specs.Prelude.{ℕ, List, map, slice_get}
 use Rattle.std.specs.List.{All}
 use Rattle.gq_base.specs.Values.{Val}
 use Rattle.gq_cells.specs.Numbers.{IsNumber, Kept, number_val}
 use Rattle.gq_cells.specs.declared.source.Source.{Source}
 use Rattle.gq_cells.specs.declared.cells.Cell.{Cell}
 use Rattle.gq_cells.specs.declared.cells.Cells.TheInside.{Inside}
+
+abbrev pub cell_of : ℕ → ℕ → Cell
+cell_of source number = record { source = source; number = number }
 
 abbrev pub cell_value : List Source → Cell → Val
 cell_value sources cell = number_val (slice_get sources cell.source) cell.number
