@@ -7,9 +7,10 @@ ghost use Rattle.gq_project.specs.Judged.{IsRead, Judges, PushesValues, asked_ou
 ghost use Rattle.gq_project.specs.Judged.{column_count, key_count, late_checked};
 ghost use Rattle.gq_project.specs.Reading.{at_numbers};
 
+use crate::conjunct::Conjunct;
 use crate::reading::Reading;
 use gq_base::{List, Memory, Value};
-use gq_eval::{Evaluator, Verdict, judge_more};
+use gq_eval::{Evaluator, Verdict};
 use gq_expr::Assigned;
 use gq_kept::RowRefusal;
 use gq_plan::Bound;
@@ -32,14 +33,14 @@ pub struct Question<'q, 'g> {
 /// Looks at the conjuncts that are left, by their numbers: one that drops counts before any fault,
 /// also an earlier one.
 #[tactic(auto, using(gq_eval::proofs::Verdicts::stays_dropped))]
-pub fn check_late<R: Assigned>(conjuncts: &List<Evaluator<'_>>, late: &[u32], row: &R) -> Verdict
+pub fn check_late<R: Assigned>(conjuncts: &List<Conjunct<'_>>, late: &[u32], row: &R) -> Verdict
     ensures { let left = at_numbers conjuncts.now late.now in
         result ≡ judged_after Pass (answers (R.assignment row.now) left) }
 {
     let mut verdict = Verdict::Pass;
     'late: for number in late {
         if let Some(conjunct) = conjuncts.get(*number as usize) {
-            verdict = judge_more(verdict, conjunct.value(row));
+            verdict = conjunct.judge_more(verdict, row);
             if let Verdict::Dropped = verdict {
                 return Verdict::Dropped;
             }

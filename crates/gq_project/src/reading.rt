@@ -1,10 +1,13 @@
 //! The columns, the keys and the conjuncts of a query, each made ready once for many rows.
 ghost use Rattle.std.specs.Prelude.{◌≡◌, IfOk, OnOk, false};
+ghost use Rattle.gq_base.specs.Plain.{Graph as Plain};
+ghost use Rattle.gq_plan.specs.declared.bound.Bound.{Bound as Query};
 ghost use Rattle.gq_project.specs.Reading.{IsReading, IsReadyFor, asked_keys};
 
+use crate::conjunct::{Conjunct, conjuncts};
 use gq_base::{List, Memory};
 use gq_eval::{Evaluator, evaluators};
-use gq_plan::{Bound, SortExpr};
+use gq_plan::{Bound, SortExpr, Typed};
 use gq_store::Graph;
 use std::alloc::Global;
 
@@ -15,7 +18,7 @@ pub struct Reading<'g> {
     pub ready: bool,
     pub columns: List<Evaluator<'g>>,
     pub keys: List<Evaluator<'g>>,
-    pub conjuncts: List<Evaluator<'g>>,
+    pub conjuncts: List<Conjunct<'g>>,
 }
 
 impl<'g> Reading<'g> {
@@ -31,13 +34,23 @@ impl<'g> Reading<'g> {
         }
     }
 
-    /// Makes those of a query over a graph ready; where that was done, they stay. It is called for
-    /// each row, and then mostly there is nothing to do.
+    /// Another alternative's rows follow: where it leaves conjuncts, all is made ready anew.
+    pub fn start_alternative(&mut self, typed: &Typed)
+        ensures { (g : Plain) (b : Query) → IsReadyFor g b self.old → IsReadyFor g b self.new }
+    {
+        if !typed.late.is_empty() {
+            self.ready = false;
+        }
+    }
+
+    /// Makes those of a query over a graph ready, for rows of an alternative; where that was done,
+    /// they stay. It is called for each row, and then mostly there is nothing to do.
     #[inline(always)]
     pub fn prepare(
         &mut self,
         alloc: Global,
         bound: &'g Bound,
+        typed: &Typed,
         graph: &'g Graph,
     ) -> Result<(), Memory>
         requires { IsReadyFor graph.now bound.now self.old }
@@ -47,14 +60,15 @@ impl<'g> Reading<'g> {
         if self.ready {
             return Ok(());
         }
-        self.make_ready(alloc, bound, graph)
+        self.make_ready(alloc, bound, typed, graph)
     }
 
-    // Makes those of a query over a graph ready.
+    // Makes those of a query over a graph ready, for rows of an alternative.
     fn make_ready(
         &mut self,
         alloc: Global,
         bound: &'g Bound,
+        typed: &Typed,
         graph: &'g Graph,
     ) -> Result<(), Memory>
         requires { IsReadyFor graph.now bound.now self.old }
@@ -65,7 +79,7 @@ impl<'g> Reading<'g> {
             ready: true,
             columns: evaluators(alloc, bound.columns.as_slice(), graph)?,
             keys: key_evaluators(alloc, bound.keys.as_slice(), graph)?,
-            conjuncts: evaluators(alloc, bound.conjuncts.as_slice(), graph)?,
+            conjuncts: conjuncts(alloc, bound.conjuncts.as_slice(), Some(typed), graph)?,
         };
         Ok(())
     }
