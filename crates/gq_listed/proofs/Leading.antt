@@ -57,12 +57,13 @@ pub record IsStanding (ps : List ℕ) (i : ℕ) (g : Group) : Type 0 where
   pub piece : IsPiece g.piece
   pub within : i < length ps
   pub low : slice_index ps i < length (items_of g.piece)
+  pub selected : is_selected g (slice_index ps i) ≡ true
 
 pub standing : (c : Chunk) (ps : List ℕ) (i : ℕ) (g : Group) → IsChunk c → AreSelected c.groups.now ps → group_of c i ≡ Some g → IsStanding ps i g
 standing c ps i g ok selected at =
     let group : IsGroup g = of_all IsGroup c.groups.now i g ok.groups at in
     let here = selected_at c.groups.now ps i g selected at in
-    record { piece = group.piece; within = here.1; low = group.marked (slice_index ps i) (and_parts (is_current g.current (slice_index ps i)) _ here.0).1 }
+    record { piece = group.piece; within = here.1; low = group.marked (slice_index ps i) (and_parts (is_current g.current (slice_index ps i)) _ here.0).1; selected = here.0 }
 
 -- ---- where a variable lives
 

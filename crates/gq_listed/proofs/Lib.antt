@@ -3,3 +3,4 @@ pub mod Finding
 mod FlatGroups
 mod Leading
 mod ListedRows
+mod Windowed

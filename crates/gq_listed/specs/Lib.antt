@@ -3,4 +3,5 @@ pub mod Flat
 pub mod Keys
 pub mod Leads
 pub mod Listed
+pub mod Windows
 pub mod steps

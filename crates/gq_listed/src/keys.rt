@@ -1,27 +1,29 @@
 //! How the value of a key is found at the positions of a chunk without being evaluated: as the values
 //! of columns are, but it is kept nowhere.
-ghost use Rattle.std.specs.Prelude.{◌≡◌, IfOk, IfSome, List, None, Ok};
+ghost use Rattle.std.specs.Prelude.{◌≡◌, IfOk, IfSome, List, None, Ok, ℕ};
 ghost use Rattle.gq_base.specs.Values.{val};
 ghost use Rattle.gq_cells.specs.declared.source.Source.{Source as Means};
 ghost use Rattle.gq_eval.specs.Asked.{Asked, asked};
 ghost use Rattle.gq_expr.specs.Meaning.{meaning};
 ghost use Rattle.gq_expr.specs.declared.expr.Expr.{Expr as Key};
-ghost use Rattle.gq_group.specs.Chunks.{IsChunkOf, assignment_at};
+ghost use Rattle.gq_group.specs.Chunks.{IsChunk, IsChunkOf, assignment_at};
 ghost use Rattle.gq_group.specs.Groups.{AreSelected};
 ghost use Rattle.gq_listed.specs.Finding.{IsFinder};
 ghost use Rattle.gq_listed.specs.Keys.{FindsKey, FindsSome};
 ghost use Rattle.gq_listed.specs.Leads.{IsLed};
+ghost use Rattle.gq_listed.specs.Windows.{AreBehind, IsIn};
 ghost use Rattle.gq_plan.specs.Assignments.{row_of};
 ghost use Rattle.gq_plan.specs.Rows.{assigned};
 
-use crate::finder::{Finder, Found, Lead};
+use crate::finder::{Finder, Found, Lead, Way};
 use crate::holding::{has_many, lead_of};
 use crate::leads::Spot;
 use crate::tables::Tables;
+use crate::window::Window;
 use gq_base::{Memory, Value};
-use gq_cells::{Cells, Source};
+use gq_cells::{Cells, Source, WINDOW};
 use gq_expr::Expr;
-use gq_group::Chunk;
+use gq_group::{Chunk, Piece};
 use gq_plan::{Bound, Typed};
 use gq_store::Graph;
 use std::alloc::Global;
@@ -99,6 +101,74 @@ impl<'g> KeyFinder<'g> {
             Found::Number(number) => Some(self.cells.read(finder.source, number)),
             Found::Null | Found::Other => None,
         }
+    }
+
+    /// What is known of the positions of the group that decides a key alone, before they are looked
+    /// at, where its items are rows that follow one another and the key is an integer.
+    pub fn window(&self, finder: &Finder, chunk: &Chunk<'_, '_>) -> Option<Window>
+        requires { IsChunk chunk.now }
+        ensures { IfSome result (λ w. (ps : List ℕ) → AreSelected chunk.now.groups.now ps
+            → IsIn w ps → ⊥) }
+    {
+        let Lead::Item { group } = finder.lead else {
+            return None;
+        };
+        if !self.cells.has_integers(finder.source) {
+            return None;
+        }
+        let Some(here) = chunk.groups().get(group as usize) else {
+            return None;
+        };
+        match here.piece() {
+            Piece::Span { .. } => Some(Window::new(group, here.marks())),
+            Piece::List { .. } | Piece::Matches { .. } => None,
+        }
+    }
+
+    /// Looks at positions of the window's group from those on: where the key is found to come behind
+    /// a bar they are not left.
+    pub fn behind(
+        &self,
+        window: &mut Window,
+        finder: &Finder,
+        graph: &Graph,
+        typed: &Typed,
+        chunk: &Chunk<'_, '_>,
+        positions: &[u32],
+        down: bool,
+        bar: &Value<'_>,
+    )
+        requires chunk { IsChunkOf graph.now typed.now chunk.now }
+        requires selected { AreSelected chunk.now.groups.now positions.now }
+        requires led { IsLed graph.now typed.now chunk.now finder.now }
+        requires finder { FindsSome graph.now self.now.cells.sources finder.now }
+        ensures { (key : Key) → IsFinder self.now.cells.sources (asked key graph.now) finder.now
+            → AreBehind graph.now typed.now chunk.now window.old key down (val bar.now)
+            → AreBehind graph.now typed.now chunk.now window.new key down (val bar.now) }
+    {
+        let Way::Node(range) = finder.way else {
+            return;
+        };
+        let Lead::Item { group } = finder.lead else {
+            return;
+        };
+        if group != window.group {
+            return;
+        }
+        let Piece::Span { low: _, high } = chunk.group(group).piece() else {
+            return;
+        };
+        let spot = Spot {
+            graph,
+            typed,
+            chunk,
+            positions,
+        };
+        let position = positions[group as usize];
+        let row = spot.item(group) - position % 64;
+        let count = high.min(range.count).saturating_sub(row).min(WINDOW);
+        let marks = self.cells.behind(finder.source, row, count, down, bar);
+        window.take(position / 64, &marks);
     }
 }
 

@@ -34,9 +34,9 @@ impl<'r, 'c, 'g> Spot<'r, 'c, 'g> {
         ChunkRow::new(self.graph, self.typed, self.chunk, self.positions)
     }
 
-    // The item of a group.
+    /// The item of a group.
     #[inline(always)]
-    fn item(&self, group: u32) -> u32
+    pub(crate) fn item(&self, group: u32) -> u32
         requires spot { IsSpot self.now }
         requires group { group < length self.now.chunk.now.groups.now }
         ensures { result

@@ -11,8 +11,10 @@ mod leads;
 mod listed;
 mod places;
 mod tables;
+mod window;
 
 pub use finder::Finder;
 pub use holding::hold_columns;
 pub use keys::{KeyFinder, hold_key};
 pub use listed::{Asked, Listed, find_columns, is_listing};
+pub use window::Window;

@@ -25,7 +25,7 @@ use gq_expr::Assigned;
 use gq_group::{Choice, Chunk};
 use gq_kept::{Form, More, RowRefusal, may_keep};
 use gq_plan::{Bound, Typed};
-use gq_project::{Admits, Reading, check_late};
+use gq_project::{Admits, Conjunct, Reading, check_late};
 use gq_store::Graph;
 
 /// What is asked of each row where the rows are listed as they come, and the most rows that are
@@ -153,7 +153,7 @@ fn put_led_row<'g>(
 
 // What the conjuncts that are left say of an assignment. Mostly there are none.
 #[inline(always)]
-fn check_left<R: Assigned>(conjuncts: &List<Evaluator<'_>>, late: &[u32], row: &R) -> Verdict
+fn check_left<R: Assigned>(conjuncts: &List<Conjunct<'_>>, late: &[u32], row: &R) -> Verdict
     ensures { let left = at_numbers conjuncts.now late.now in
         result ≡ judged_after Pass (answers (R.assignment row.now) left) }
 {

@@ -1,6 +1,7 @@
 mod Bars
 mod ByKeys
 pub mod ClassRows
+mod Covering
 mod FromPlaces
 mod Pieces
 mod PlaceOrder

@@ -1,3 +1,4 @@
+pub mod Bars
 pub mod Keeping
 pub mod Sorting
 pub mod Sure

@@ -2,9 +2,10 @@
 //! its values are made, where it is sure to have them.
 ghost use Rattle.std.specs.Prelude.{◌≡◌, List, length, map, true};
 ghost use Rattle.std.specs.List.{AllByRecursion};
+ghost use Rattle.std.specs.declared.cmp.Ordering.TheVariants.{Less};
 ghost use Rattle.gq_base.specs.Values.{Val, val};
 ghost use Rattle.gq_eval.specs.Asked.{answers};
-ghost use Rattle.gq_kept.specs.Answers.{keys_order};
+ghost use Rattle.gq_kept.specs.Answers.{by_direction, keys_order};
 ghost use Rattle.gq_plan.specs.declared.bound.NamedExpr.{NamedExpr};
 ghost use Rattle.gq_plan.specs.declared.bound.SortExpr.{SortExpr};
 ghost use Rattle.gq_values.specs.Sure.{AreSure, AreValues, HasSureColumn, HasSureKey};
@@ -15,6 +16,27 @@ use gq_eval::Evaluator;
 use gq_expr::{Assigned, is_sure};
 use gq_plan::{Bound, NamedExpr, SortExpr};
 use std::cmp::Ordering;
+
+/// The first key of the bar, and whether rows descend by it.
+#[derive(Clone, Copy)]
+pub struct FirstBar<'g> {
+    pub down: bool,
+    pub value: Value<'g>,
+}
+
+impl<'g> FirstBar<'g> {
+    /// Whether what comes behind the other is found to come behind it, too.
+    pub fn covers(&self, other: &FirstBar<'_>) -> bool
+        ensures { (v : Val) → result ≡ true
+            → by_direction other.now.down (val other.now.value) v ≡ Less
+            → by_direction self.now.down (val self.now.value) v ≡ Less }
+    {
+        if self.down != other.down {
+            return false;
+        }
+        direct(self.down, &self.value, &other.value).is_le()
+    }
+}
 
 /// Whether each column and each key is sure to have a value.
 pub fn are_sure(bound: &Bound) -> bool

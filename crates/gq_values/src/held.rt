@@ -1,6 +1,6 @@
 //! The rows that a table holds, as values.
-ghost use Rattle.std.specs.Prelude.{◌≡◌, ◌+◌, ◌*◌, ◌<◌, ◌≤◌, ◌^◌, IfOk, OnOk, false, length, map};
-ghost use Rattle.std.specs.Prelude.{Ok, [], min, true, ℕ};
+ghost use Rattle.std.specs.Prelude.{◌≡◌, ◌+◌, ◌*◌, ◌<◌, ◌≤◌, ◌^◌, IfOk, IfSome, OnOk, false, length};
+ghost use Rattle.std.specs.Prelude.{Ok, [], map, min, true, ℕ};
 ghost use Rattle.gq_base.specs.Plain.{Graph};
 ghost use Rattle.gq_base.specs.Values.{val};
 ghost use Rattle.gq_classes.specs.Rows.{AreWide};
@@ -11,12 +11,13 @@ ghost use Rattle.gq_kept.specs.declared.refusal.More.TheVariants.{Go};
 ghost use Rattle.gq_plan.specs.Outcomes.{outcome_by};
 ghost use Rattle.gq_project.specs.Judged.{IsRead, asked_outcome, column_count, key_count};
 ghost use Rattle.gq_project.specs.Judged.{late_checked};
+ghost use Rattle.gq_values.specs.Bars.{IsFirstBar};
 ghost use Rattle.gq_values.specs.Keeping.{Adds, AddsFirst, ComesBehind, IsBehind, IsOpen, PushesBy};
 ghost use Rattle.gq_values.specs.Keeping.{bar_of, last_of};
 ghost use Rattle.gq_values.specs.Sorting.{HasFirsts, HasLastKeys, Sorts};
 ghost use Rattle.gq_values.specs.Sure.{AreSure, StartsWith};
 
-use crate::bar::rank_of_bar;
+use crate::bar::{FirstBar, rank_of_bar};
 use crate::sorting::{cut, direct, is_level_or_behind, last_keys, split_first};
 use gq_base::{Memory, Value};
 use gq_classes::Classes as ClassRows;
@@ -108,6 +109,23 @@ impl<'g> Rows<'g> {
         };
         let (value, _) = split_first(bar.as_slice());
         direct(sort.down, &value, first).is_lt()
+    }
+
+    /// The first key of the bar, where there is one.
+    pub fn first_bar(&self, bound: &Bound) -> Option<FirstBar<'g>>
+        ensures { IfSome result (IsFirstBar bound.now self.now) }
+    {
+        let Some(bar) = &self.bar else {
+            return None;
+        };
+        let Some(sort) = bound.keys.get(0) else {
+            return None;
+        };
+        let (value, _) = split_first(bar.as_slice());
+        Some(FirstBar {
+            down: sort.down,
+            value,
+        })
     }
 
     // Whether no row is answered, or the last row comes behind the bar or level with it.

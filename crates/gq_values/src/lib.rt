@@ -7,6 +7,6 @@ mod bar;
 mod held;
 mod sorting;
 
-pub use bar::are_sure;
+pub use bar::{FirstBar, are_sure};
 pub use held::{Rows, first_rows};
 pub use sorting::sort;
