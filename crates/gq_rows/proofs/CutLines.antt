@@ -114,6 +114,15 @@ module _ (l : Inside) (has : HasLines l) where
       ∙ get_or-take l.width (drop start (values_of l.values)) column null (omega (arith, within, wide))
       ∙ get_or-drop start (values_of l.values) column null)
 
+  -- the same of a line that stands so many lines behind another one
+  pub value_behind : (first k column : ℕ) → first + k < length (lines_of l) → column < length (get_or (lines_of l) (first + k) []) → ((l.skip + first) * l.width + column + k * l.width < length (values_of l.values))
+      × (get_or (values_of l.values) ((l.skip + first) * l.width + column + k * l.width) null ≡ get_or (get_or (lines_of l) (first + k) []) column null)
+  value_behind first k column lt within =
+      let place : (l.skip + (first + k)) * l.width + column ≡ (l.skip + first) * l.width + column + k * l.width = omega arith in (
+        omega (arith, place, value_within (first + k) column lt within),
+        ap (λ n. get_or (values_of l.values) n null) (sym place) ∙ value_get (first + k) column lt within,
+      )
+
 -- each line has so many values as the lines are wide
 pub wide_lines : (w : ℕ) (l : Inside) → HasLines l → l.width ≡ w → All (λ line. length line ≡ w) (lines_of l)
 wide_lines w l has is = subst (λ n. All (λ line. length line ≡ n) (lines_of l)) is (lines_width l has)

@@ -1,21 +1,20 @@
 //! The assignments of a chunk, taken one after another into a sink.
 ghost use Rattle.std.specs.Prelude.{◌≡◌, ◌<◌, ◌^◌, IfOk, IfSome, Some, false, true};
 ghost use Rattle.gq_group.specs.Choices.{Begins};
-ghost use Rattle.gq_group.specs.Chunks.{IsChunkOf, assignment_at};
+ghost use Rattle.gq_group.specs.Chunks.{IsChunkOf};
 ghost use Rattle.gq_group.specs.Groups.{AreSelected};
 ghost use Rattle.gq_kept.specs.Chunks.{PushesAll, admitted_outcomes};
 ghost use Rattle.gq_kept.specs.Tables.{Pushes, StandsForSome};
 ghost use Rattle.gq_kept.specs.Tables.{is_full_table, outcome_admitted};
 ghost use Rattle.gq_plan.specs.Assignments.{row_of};
-ghost use Rattle.gq_plan.specs.Rows.{assigned};
-ghost use Rattle.gq_plan.specs.declared.bound.Bound.{Bound as Query};
 ghost use Rattle.gq_project.specs.Judged.{IsRead};
-ghost use Rattle.gq_rows.specs.steps.Keyed.{FindsFirst, IsLeading, IsLedValue, LeadsSome};
+ghost use Rattle.gq_rows.specs.steps.Keyed.{FindsFirst, IsLeading};
 ghost use Rattle.gq_rows.specs.steps.Sinks.{IsSink, held_by, table_by};
 ghost use Rattle.gq_values.specs.Sure.{AreSure};
 
+use crate::behind::{begin, pass_behind, recall};
 use crate::sink::Sink;
-use gq_base::{Memory, Value};
+use gq_base::Memory;
 use gq_group::{Choice, Chunk, ChunkRow};
 use gq_kept::{More, RowRefusal};
 use gq_listed::{Finder, KeyFinder, hold_key};
@@ -129,34 +128,38 @@ fn push_each<'g, A: Admits>(
         PushesAll os (table_by q (held_by sink.old)) (table_by q (held_by sink.new)) result }
     ensures sink { IsSink question.now.graph.now question.now.bound.now sink.new }
 {
+    let mut past = begin(sink, question, first, &lead, chunk);
     let mut found = true;
     'choices: while found {
+        found = pass_behind(
+            &mut past, sink, question, typed, first, &lead, choice, chunk,
+        );
+        if !found {
+            return Ok(More::Go);
+        }
         let positions = choice.positions();
         let row = ChunkRow::new(question.graph, typed, chunk, positions);
-        let value = first_value(first, &lead, question.graph, typed, chunk, positions);
-        match push_row(sink, alloc, question, typed, &row, value, admits) {
+        match push_row(sink, alloc, question, typed, &row, admits) {
             Ok(More::Go) => {}
             Ok(More::Enough) => return Ok(More::Enough),
             Err(refusal) => return Err(refusal),
         }
+        recall(&mut past, sink, question);
         found = choice.next(chunk);
     }
     Ok(More::Go)
 }
 
-// Takes an assignment, if it is admitted. The value is that of its first key, if it was found.
+// Takes an assignment, if it is admitted.
 fn push_row<'g, A: Admits>(
     sink: &mut Sink<'g>,
     alloc: Global,
     question: &Question<'_, 'g>,
     typed: &Typed,
     row: &ChunkRow<'_, '_, '_, '_, '_>,
-    value: Option<Value<'g>>,
     admits: &A,
 ) -> Result<More, RowRefusal>
     requires late { question.now.late.now ≡ typed.now.late }
-    requires value { let q = question.now in
-        IfSome value (IsLedValue q.graph.now q.bound.now typed.now (row_of row.now)) }
     requires sink { IsSink question.now.graph.now question.now.bound.now sink.old }
     requires sure { question.now.sure ≡ true → AreSure question.now.bound.now }
     requires reading { IsRead question.now }
@@ -172,34 +175,5 @@ fn push_row<'g, A: Admits>(
     if !admits.admits(row) {
         return Ok(More::Go);
     }
-    if sink.passes_over(question, &value) {
-        return Ok(More::Go);
-    }
     sink.push(alloc, question, typed, row)
-}
-
-// The value of the first key of a query at one selected position of each group, if something finds
-// it.
-#[inline(always)]
-fn first_value<'g>(
-    first: &KeyFinder<'g>,
-    lead: &Option<Finder>,
-    graph: &Graph,
-    typed: &Typed,
-    chunk: &Chunk<'_, '_>,
-    positions: &[u32],
-) -> Option<Value<'g>>
-    requires chunk { IsChunkOf graph.now typed.now chunk.now }
-    requires selected { AreSelected chunk.now.groups.now positions.now }
-    requires lead { LeadsSome graph.now typed.now chunk.now first.now.cells.sources lead.now }
-    ensures { let here = assignment_at graph.now typed.now chunk.now positions.now in
-        let read = row_of (assigned typed.now here) in
-        let sources = first.now.cells.sources in
-        (b : Query) → IfSome lead.now (IsLeading graph.now b typed.now chunk.now sources)
-        → IfSome result (IsLedValue graph.now b typed.now read) }
-{
-    match lead {
-        None => None,
-        Some(finder) => first.value_at(finder, graph, typed, chunk, positions),
-    }
 }

@@ -1,6 +1,9 @@
 //! The lines of an answer, and the listing that has them.
-ghost use Rattle.std.specs.Prelude.{◌≡◌, ◌<◌, ◌-◌, [], IsTrue, length, nat_eq, slice_index_or};
+ghost use Rattle.std.specs.Prelude.{◌≡◌, ℕ, ◌<◌, ◌≤◌, ◌+◌, ◌-◌, ◌*◌, [], IsTrue, length, nat_eq};
+ghost use Rattle.std.specs.Prelude.{slice_index_or};
+ghost use Rattle.std.specs.List.{All};
 ghost use Rattle.gq_base.specs.Values.{null, val};
+ghost use Rattle.gq_base.specs.declared.value.Value.TheVariants as value;
 ghost use Rattle.gq_rows.specs.steps.Lines.{values_of};
 
 use gq_base::Value;
@@ -25,6 +28,38 @@ impl<'g> Values<'g> {
             Values::Made(values) => values[index],
             Values::Kept(cells) => cells.value(index),
         }
+    }
+
+    // Values that stand so many places from one another, from a place on.
+    fn values(&self, first: usize, step: usize, count: usize, out: &mut [Value<'g>; 64])
+        requires few { count ≤ 64 }
+        requires within { (k : ℕ) → k < count → first + k * step < length (values_of self.now) }
+        ensures { (k : ℕ) → k < count → val (slice_index_or out.new k value.Null)
+            ≡ slice_index_or (values_of self.now) (first + k * step) null }
+    {
+        match self {
+            Values::Made(values) => made_values(values.as_slice(), first, step, count, out),
+            Values::Kept(cells) => cells.values(first, step, count, out),
+        }
+    }
+}
+
+fn made_values<'g>(
+    values: &[Value<'g>],
+    first: usize,
+    step: usize,
+    count: usize,
+    out: &mut [Value<'g>; 64],
+)
+    requires few { count ≤ 64 }
+    requires within { (k : ℕ) → k < count → first + k * step < length values.now }
+    ensures { (k : ℕ) → k < count → val (slice_index_or out.new k value.Null)
+        ≡ val (slice_index_or values.now (first + k * step) value.Null) }
+{
+    // For the arithmetic: their number fits 64 bits.
+    let _ = values.len();
+    for place in 0..count {
+        out[place] = values[first + place * step];
     }
 }
 
@@ -66,10 +101,11 @@ impl<'g> Lines<'g> {
         self.len() == 0
     }
 
-    /// How many values a line has.
+    /// How many values a line has, which is as many as each has.
     pub fn width(&self, row: usize) -> usize
         requires { row < length self.now }
-        ensures { result ≡ length (slice_index_or self.now row []) }
+        ensures width { result ≡ length (slice_index_or self.now row []) }
+        ensures all { All (λ line. length line ≡ result) self.now }
     {
         let _ = row;
         self.width
@@ -83,6 +119,20 @@ impl<'g> Lines<'g> {
         ensures { val result ≡ slice_index_or (slice_index_or self.now row []) column null }
     {
         self.values.value((self.skip + row) * self.width + column)
+    }
+
+    /// The values of at most 64 lines from a line on in a column, each in its place.
+    pub fn values(&self, first: usize, count: usize, column: usize, out: &mut [Value<'g>; 64])
+        requires few { count ≤ 64 }
+        requires lines { first + count ≤ length self.now }
+        requires column { All (λ line. column < length line) self.now }
+        ensures { (k : ℕ) → k < count → val (slice_index_or out.new k value.Null)
+            ≡ slice_index_or (slice_index_or self.now (first + k) []) column null }
+    {
+        if count > 0 {
+            let place = (self.skip + first) * self.width + column;
+            self.values.values(place, self.width, count, out);
+        }
     }
 
     /// Whether the value of a line in a column, both counted from 0, is kept as that of the line
@@ -136,10 +186,11 @@ impl<'g> Listing<'g> {
         self.columns
     }
 
-    /// How many values a line has, counted from 0: one for each column.
+    /// How many values a line, counted from 0, has: one for each column, as each line has.
     pub fn width(&self, row: usize) -> usize
         requires { row < length self.now.lines }
-        ensures { result ≡ length (slice_index_or self.now.lines row []) }
+        ensures width { result ≡ length (slice_index_or self.now.lines row []) }
+        ensures all { All (λ line. length line ≡ result) self.now.lines }
     {
         self.lines.width(row)
     }
@@ -152,6 +203,18 @@ impl<'g> Listing<'g> {
         ensures { val result ≡ slice_index_or (slice_index_or self.now.lines row []) column null }
     {
         self.lines.value(row, column)
+    }
+
+    /// The values of at most 64 lines from a line on, counted from 0, in a column, each in its place:
+    /// read in one loop, where they are kept in one way.
+    pub fn values(&self, first: usize, count: usize, column: usize, out: &mut [Value<'g>; 64])
+        requires few { count ≤ 64 }
+        requires lines { first + count ≤ length self.now.lines }
+        requires column { All (λ line. column < length line) self.now.lines }
+        ensures { (k : ℕ) → k < count → val (slice_index_or out.new k value.Null)
+            ≡ slice_index_or (slice_index_or self.now.lines (first + k) []) column null }
+    {
+        self.lines.values(first, count, column, out);
     }
 
     /// Whether the value of a line in a column, both counted from 0, is kept as that of the line

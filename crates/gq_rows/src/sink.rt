@@ -9,7 +9,7 @@ ghost use Rattle.gq_kept.specs.declared.refusal.More.TheVariants.{Go};
 ghost use Rattle.gq_plan.specs.declared.bound.Bound.{Bound as Query};
 ghost use Rattle.gq_plan.specs.declared.typed.Typed.{Typed as Alternative};
 ghost use Rattle.gq_project.specs.Judged.{IsRead, asked_outcome};
-ghost use Rattle.gq_rows.specs.steps.Keyed.{IsLedValue};
+ghost use Rattle.gq_rows.specs.steps.Keyed.{IsLedValue, IsPastBar};
 ghost use Rattle.gq_rows.specs.steps.Sinks.{IsSink, has_bar, held_by, table_by};
 ghost use Rattle.gq_values.specs.Sure.{AreSure};
 
@@ -23,7 +23,7 @@ use gq_listed::is_listing;
 use gq_plan::{Bound, Typed};
 use gq_project::Question;
 use gq_store::Graph;
-use gq_values::Rows;
+use gq_values::{FirstBar, Rows};
 use std::alloc::Global;
 
 /// The rows of a query, as those are held that count.
@@ -118,6 +118,24 @@ impl<'g> Sink<'g> {
         match self {
             Sink::Top(top) => top.passes_over(question, value),
             Sink::Listed(_) | Sink::Kept(_) | Sink::Classes(_) => false,
+        }
+    }
+
+    /// The first key of the bar, where there is one.
+    pub(crate) fn first_bar(&self, question: &Question<'_, 'g>) -> Option<FirstBar<'g>>
+        requires sink { IsSink question.now.graph.now question.now.bound.now self.now }
+        requires small { question.now.limit < 2 ^ 32 }
+        requires stands { StandsForSome (table_by question.now (held_by self.now)) }
+        requires room { is_full_table (table_by question.now (held_by self.now)) ≡ false }
+        ensures { (y : Alternative) (here : reads.Assignment) → let q = question.now in
+            let table = table_by q (held_by self.now) in
+            let o = outcome_numbered q.graph.now q.bound.now y.late here in
+            IfSome result (λ bar. IsPastBar q.graph.now q.bound.now y here bar
+            → Pushes o table table (Ok Go)) }
+    {
+        match self {
+            Sink::Top(top) => top.first_bar(question),
+            Sink::Listed(_) | Sink::Kept(_) | Sink::Classes(_) => None,
         }
     }
 

@@ -98,6 +98,7 @@ impl<'g> RowTable<'g> {
     {
         self.typed = Some(typed);
         self.sink.start_alternative();
+        self.reading.start_alternative(typed);
         self.first.finder = None;
     }
 
@@ -195,7 +196,8 @@ impl<'g> RowTable<'g> {
             Some(fault) => return Err(RowRefusal::Fault(fault)),
             None => {}
         }
-        self.reading.prepare(self.alloc, self.bound, self.graph)?;
+        self.reading
+            .prepare(self.alloc, self.bound, typed, self.graph)?;
         let question = Question {
             graph: self.graph,
             bound: self.bound,
@@ -226,7 +228,8 @@ impl<'g> RowTable<'g> {
         ensures query { OnOk result (IsSameQuery self.old self.new) }
         ensures pushed { OnOk result (self.new.pushed ≡ self.old.pushed) }
     {
-        self.reading.prepare(self.alloc, self.bound, self.graph)?;
+        self.reading
+            .prepare(self.alloc, self.bound, typed, self.graph)?;
         let question = Question {
             graph: self.graph,
             bound: self.bound,

@@ -8,7 +8,7 @@ ghost use Rattle.gq_kept.specs.declared.form.Form.TheVariants.{Top};
 ghost use Rattle.gq_kept.specs.declared.refusal.More.TheVariants.{Go};
 ghost use Rattle.gq_plan.specs.declared.typed.Typed.{Typed as Alternative};
 ghost use Rattle.gq_project.specs.Judged.{IsRead, asked_outcome};
-ghost use Rattle.gq_rows.specs.steps.Keyed.{IsLedValue};
+ghost use Rattle.gq_rows.specs.steps.Keyed.{IsLedValue, IsPastBar};
 ghost use Rattle.gq_rows.specs.steps.Sinks.{table_by};
 ghost use Rattle.gq_values.specs.Keeping.{held_of};
 ghost use Rattle.gq_values.specs.Sure.{AreSure};
@@ -17,7 +17,7 @@ use gq_base::Value;
 use gq_expr::Assigned;
 use gq_kept::{More, RowRefusal};
 use gq_project::Question;
-use gq_values::Rows;
+use gq_values::{FirstBar, Rows};
 use std::alloc::Global;
 
 /// The rows that come first by their keys, and how many they are to be.
@@ -66,5 +66,20 @@ impl<'g> TopRows<'g> {
             None => false,
             Some(value) => self.rows.passes_over(question.bound, value),
         }
+    }
+
+    /// The first key of the bar, where there is one.
+    pub(crate) fn first_bar(&self, question: &Question<'_, 'g>) -> Option<FirstBar<'g>>
+        requires form { HasForm question.now.bound.now (Top self.now.most) }
+        requires small { question.now.limit < 2 ^ 32 }
+        requires stands { StandsForSome (table_by question.now (held_of self.now.rows)) }
+        requires room { is_full_table (table_by question.now (held_of self.now.rows)) ≡ false }
+        ensures { (y : Alternative) (here : reads.Assignment) → let q = question.now in
+            let table = table_by q (held_of self.now.rows) in
+            let o = outcome_numbered q.graph.now q.bound.now y.late here in
+            IfSome result (λ bar. IsPastBar q.graph.now q.bound.now y here bar
+            → Pushes o table table (Ok Go)) }
+    {
+        self.rows.first_bar(question.bound)
     }
 }

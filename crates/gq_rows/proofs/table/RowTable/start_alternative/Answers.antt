@@ -7,6 +7,6 @@ invariant_of-self c =
       sink = c.start_alternative.ensures.sink c.self.inside.graph.now c.self.inside.bound.now i.sink;
       small = i.small;
       sure = i.sure;
-      ready = i.ready;
+      ready = c.start_alternative-2.ensures c.self.inside.graph.now c.self.inside.bound.now i.ready;
       first = λ sort at. tt;
     }

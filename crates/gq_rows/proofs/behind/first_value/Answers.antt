@@ -2,7 +2,7 @@ use Rattle.gq_group.specs.Chunks.{assignment_at}
 use Rattle.gq_plan.specs.Assignments.{row_of}
 use Rattle.gq_plan.specs.Rows.{assigned}
 use Rattle.gq_rows.proofs.Passing.{finds_some, led_value}
-use Rattle.gq_rows.proofs.choices.first_value.Goals as goal
+use Rattle.gq_rows.proofs.behind.first_value.Goals as goal
 
 pub value_at-requires-clause-led : goal.value_at-requires-clause-led
 value_at-requires-clause-led c = let (b, leads) = c.requires.lead in (rw c.in-Some.is at leads).led
