@@ -3,9 +3,9 @@
 
 use crate::testing::Tests;
 use gq_base::List;
-use gq_eval::Evaluator;
 use gq_optional::{Optionals, RowShape};
 use gq_plan::Bound;
+use gq_project::Conjunct;
 use gq_store::Graph;
 
 /// A graph and a query, its conjuncts over the graph where optional clauses or trails ask them, its tests of paths,
@@ -14,7 +14,7 @@ use gq_store::Graph;
 pub struct Prepared<'q> {
     pub graph: &'q Graph,
     pub bound: &'q Bound,
-    pub conjuncts: List<Evaluator<'q>>,
+    pub conjuncts: List<Conjunct<'q>>,
     /// The variables of its rows.
     pub shape: RowShape,
     pub tests: Tests<'q>,

@@ -18,12 +18,12 @@ use crate::settings::Settings;
 use crate::testing::{append, spent_of_tests, tests_of};
 use gq_base::{List, Memory};
 use gq_drain::Prepared;
-use gq_eval::{Evaluator, evaluators};
 use gq_optional::RowShape;
 use gq_order::Stats;
 use gq_pipe::Spent;
 use gq_plan::Bound;
 use gq_pool::VectorPool;
+use gq_project::{Conjunct, conjuncts};
 use gq_store::Graph;
 use std::alloc::Global;
 
@@ -62,13 +62,14 @@ fn conjuncts_for<'q>(
     alloc: Global,
     bound: &'q Bound,
     graph: &'q Graph,
-) -> Result<List<Evaluator<'q>>, Memory>
+) -> Result<List<Conjunct<'q>>, Memory>
     ensures { IfOk result (AreAsked graph.now bound.now) }
 {
     if bound.optionals.is_empty() && bound.trails.is_empty() {
         return Ok(List::new(alloc));
     }
-    evaluators(alloc, bound.conjuncts.as_slice(), graph)
+    let first = bound.alternatives.get(0);
+    conjuncts(alloc, bound.conjuncts.as_slice(), first, graph)
 }
 
 /// Makes the tests of a query, and lists the matches of its optional clauses.
