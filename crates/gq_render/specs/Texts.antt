@@ -1,5 +1,5 @@
 -- The texts of replies (this project's profile).
-use Rattle.std.specs.Prelude.{ℕ, true, false, List, [], ◌∷◌, ◌++◌, ◌==◌, if◌then◌else◌, codes, decimal, flat_map}
+use Rattle.std.specs.Prelude.{ℕ, true, false, List, [], ◌∷◌, ◌++◌, ◌==◌, if◌then◌else◌, codes, flat_map}
 use Rattle.std.specs.Fmt.{signed_decimal}
 use Rattle.gq_base.specs.Values.{Val, null, flag, int, str}
 
@@ -45,18 +45,6 @@ after_tab text = codes "\t" ++ text
 abbrev pub tabbed : List (List ℕ) → List ℕ
 tabbed [] = []
 tabbed (text ∷ texts) = text ++ flat_map after_tab texts
-
--- a number in a refusal, and what goes before it
-pub record PlaceText : Type 0 where
-  pub before : List ℕ
-  pub number : ℕ
-
-abbrev pub place_text : PlaceText → List ℕ
-place_text place = place.before ++ decimal place.number
-
--- the line of a refusal: its front, a name, which may be empty, and where it is
-abbrev pub refusal_line : List ℕ → List ℕ → List PlaceText → List ℕ
-refusal_line front name places = line (front ++ name_text name ++ flat_map place_text places)
 
 -- the line of a parameter: its name and its value
 abbrev pub param_line : List ℕ → Val → List ℕ

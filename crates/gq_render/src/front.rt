@@ -6,10 +6,10 @@ ghost use Rattle.gq_base.specs.Values.{val};
 ghost use Rattle.gq_render.specs.Listings.{value_text};
 ghost use Rattle.gq_render.specs.steps.Fronts.{AreStarts, IsCut, IsFront, IsShared, before_tab};
 
+use crate::block::Block;
 use crate::value::put_value;
 use gq_base::Value;
 use gq_io::{Batch, Failed, Nowhere};
-use gq_rows::Listing;
 use gq_store::Graph;
 
 // A front has so many columns at most.
@@ -74,7 +74,8 @@ impl Front {
 
     /// Puts the texts of further columns of a row, up to so many. Where they do not fit, the front
     /// has no columns.
-    pub(crate) fn fill(&mut self, graph: &Graph, listing: &Listing<'_>, row: usize, count: usize)
+    #[inline(always)]
+    pub(crate) fn fill(&mut self, graph: &Graph, listing: &Block<'_, '_>, row: usize, count: usize)
         requires row { row < length listing.now.lines }
         requires few { count ≤ length (slice_index_or listing.now.lines row []) - 1 }
         requires room { count ≤ 16 }
@@ -97,6 +98,7 @@ impl Front {
     }
 
     /// Leaves so many columns, or fewer where there are fewer.
+    #[inline(always)]
     pub(crate) fn cut(&mut self, count: usize)
         requires room { self.old.held ≤ 16 }
         requires starts { AreStarts self.old }
@@ -122,7 +124,8 @@ fn put_behind(text: &mut Batch, graph: &Graph, value: &Value<'_>) -> Result<(), 
 
 /// How many of the first columns have the same value in a row and in the next one, at most so many
 /// as a front has, and not the last column.
-pub(crate) fn shared(listing: &Listing<'_>, row: usize) -> usize
+#[inline(always)]
+pub(crate) fn shared(listing: &Block<'_, '_>, row: usize) -> usize
     requires { row < length listing.now.lines }
     ensures { let lines = listing.now.lines in
         IsShared (slice_index_or lines row []) (slice_index_or lines (row + 1) []) result }
@@ -134,7 +137,7 @@ pub(crate) fn shared(listing: &Listing<'_>, row: usize) -> usize
     let next = row + 1;
     let width = listing.width(row).min(listing.width(next));
     let most = width.saturating_sub(1).min(MOST);
-    for column in 0..most {
+    for column in listing.staying(row).min(most)..most {
         if !listing.stays(next, column) {
             return column;
         }

@@ -6,7 +6,7 @@ ghost use Rattle.gq_io.specs.Outside.{Writes};
 ghost use Rattle.gq_io.specs.Putting.{Puts};
 ghost use Rattle.gq_render.specs.Texts.{param_line};
 
-use crate::refusal::put_front;
+use crate::pieces::{Piece, put_pieces};
 use crate::value::put_property;
 use gq_base::Literal;
 use gq_io::{Batch, Failed, Sink};
@@ -21,8 +21,8 @@ fn put_param<O: Sink>(
         (param_line name.now (literal_val value.now)) result }
     ensures cause { HasCause (O.faults out.old) (O.faults out.new) result }
 {
-    put_front(batch, out, "param ", name)?;
-    batch.put(out, b" ")?;
+    let front = [Piece::Plain("param "), Piece::Name(name), Piece::Plain(" ")];
+    put_pieces(batch, out, &front)?;
     put_property(batch, out, value.value())?;
     batch.put(out, b"\n")
 }

@@ -1,0 +1,14 @@
+use Rattle.std.proofs.Common.{◌≡◌, ◌≤◌, ◌+◌, [], take, ap, sym, ◌∙◌, arith}
+use Rattle.std.specs.Prelude.{slice_index_or}
+use Rattle.std.proofs.lemmas.List.{take-take}
+use Rattle.gq_render.proofs.front.shared.Goals as goal
+
+pub loop-column-init : goal.loop-column-init
+loop-column-init c =
+    let lines = c.args.listing.now.lines in
+    let line = slice_index_or lines c.args.row [] in
+    let next = slice_index_or lines (c.args.row + 1) [] in
+    let few = c.min-column.result in
+    let count = c.staying.result in
+    let le : few ≤ count = omega (arith, c.min-column.ensures) in
+    sym (take-take few count line le) ∙ ap (take few) c.staying.ensures ∙ take-take few count next le

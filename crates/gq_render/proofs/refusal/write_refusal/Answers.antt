@@ -1,6 +1,0 @@
-use Rattle.std.proofs.Common.{refl}
-use Rattle.gq_render.proofs.Sequence.{written}
-use Rattle.gq_render.proofs.refusal.write_refusal.Goals as goal
-
-pub returns-clause-bytes : goal.returns-clause-bytes
-returns-clause-bytes g c = written _ _ _ _ _ _ _ _ _ c.new-batch.ensures c.in_ok-put_refusal.ensures.bytes c.flush.ensures.bytes refl
