@@ -8,5 +8,4 @@ mod run;
 mod scan;
 
 pub use answering::{Answerer, Tone};
-pub use run::{PieceStop, Stop, session, take_piece};
-pub use scan::{Fed, Scan, State};
+pub use run::{Stop, session};

@@ -5,7 +5,8 @@ ghost use Rattle.gq_session.specs.Feeding.{scan_of};
 ghost use Rattle.gq_session.specs.Sessions.{Session, Taken, span_of};
 ghost use Rattle.gq_session.specs.Whole.{Whole};
 
-use crate::{Answerer, Fed, Scan, Tone};
+use crate::scan::{Fed, Scan};
+use crate::{Answerer, Tone};
 use gq_io::{Sink, Source};
 
 /// Why a piece was not taken whole.
