@@ -1,5 +1,3 @@
 pub mod Costs
-pub mod Pieces
 pub mod Plans
 pub mod Schema
-pub mod steps

@@ -1,18 +1,17 @@
 //! How many alternatives a query has, and how many each part of it that has alternatives of its own:
 //! the path of each of its tests, and each of its OPTIONAL MATCH clauses; and between them its trails.
 
-ghost use Rattle.std.specs.Prelude.{◌+◌, ◌++◌, ◌<◌, ◌^◌, flat_map, length};
-ghost use Rattle.std.specs.List.{range_with_len};
+ghost use Rattle.std.specs.Prelude.{◌+◌, ◌++◌, ◌<◌, ◌^◌};
 ghost use Rattle.gq_io.specs.Causes.{HasCause};
 ghost use Rattle.gq_io.specs.Putting.{Puts};
 ghost use Rattle.gq_explain.specs.Plans.{counts_text, optional_at, optionals_text, part_line};
 ghost use Rattle.gq_explain.specs.Plans.{test_at, tests_text, trails_text};
 
-use crate::pieces::{Piece, put_pieces};
 use crate::trails::put_trails;
 use gq_base::List;
 use gq_io::{Batch, Failed, Sink};
 use gq_plan::Bound;
+use gq_render::{Piece, put_pieces};
 
 // Puts the line of a part: its word, its number, and how many alternatives it has.
 fn put_part<O: Sink>(
@@ -93,7 +92,7 @@ fn put_optionals<O: Sink>(batch: &mut Batch, out: &mut O, bound: &Bound) -> Resu
 }
 
 // Puts the lines of trails and of OPTIONAL MATCH clauses.
-#[tactic(auto, using(crate::proofs::Chains::both_put, crate::proofs::Chains::one_broke))]
+#[tactic(auto, using(gq_render::proofs::Chains::both_put, gq_render::proofs::Chains::one_broke))]
 fn put_later<O: Sink>(
     batch: &mut Batch,
     out: &mut O,
@@ -109,7 +108,7 @@ fn put_later<O: Sink>(
 }
 
 // Puts the lines of all parts.
-#[tactic(auto, using(crate::proofs::Chains::both_put, crate::proofs::Chains::one_broke))]
+#[tactic(auto, using(gq_render::proofs::Chains::both_put, gq_render::proofs::Chains::one_broke))]
 fn put_parts<O: Sink>(
     batch: &mut Batch,
     out: &mut O,

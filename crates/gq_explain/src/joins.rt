@@ -6,8 +6,8 @@ ghost use Rattle.gq_explain.specs.Plans.{keys_text};
 ghost use Rattle.gq_explain.specs.Plans.{join_line, next_key};
 
 use crate::naming::{Naming, name_of};
-use crate::pieces::{Piece, put_pieces};
 use gq_io::{Batch, Failed, Sink};
+use gq_render::{Piece, put_pieces};
 
 fn put_next_key<O: Sink>(
     batch: &mut Batch,
@@ -66,7 +66,7 @@ fn put_keys<O: Sink>(
 }
 
 // Puts the keys of a join, and the end of its line.
-#[tactic(auto, using(crate::proofs::Chains::both_put, crate::proofs::Chains::one_broke))]
+#[tactic(auto, using(gq_render::proofs::Chains::both_put, gq_render::proofs::Chains::one_broke))]
 fn put_keys_line<O: Sink>(
     batch: &mut Batch,
     out: &mut O,

@@ -6,7 +6,6 @@ mod costs;
 mod counts;
 mod joins;
 mod naming;
-mod pieces;
 mod plans;
 mod schema;
 mod steps;

@@ -6,10 +6,10 @@ ghost use Rattle.gq_io.specs.Putting.{Puts};
 ghost use Rattle.gq_explain.specs.Plans.{ends_word, is_from_left, trail_at, trails_text};
 
 use crate::naming::name_in;
-use crate::pieces::{Piece, put_pieces};
 use gq_base::{Direction, List};
 use gq_io::{Batch, Failed, Sink};
 use gq_plan::{Bound, TrailPart};
+use gq_render::{Piece, put_pieces};
 
 // Whether a trail is walked from the end that stands left in the text.
 fn is_from_left(rightward: bool, way: Direction) -> bool

@@ -1,5 +1,5 @@
 -- How a reply that was written is one that its statement may have.
-use Rattle.std.proofs.Common.{◌≡◌, ℕ, Bool, true, false, Option, List, [], ◌∷◌, length, map, suc, Some, Ok, Err, refl, sym, ap, ◌∙◌, subst, append-nil, arith, inl, inr}
+use Rattle.std.proofs.Common.{◌≡◌, ℕ, Bool, true, false, Option, List, [], ◌∷◌, length, map, suc, Some, Ok, Err, refl, sym, ap, ◌∙◌, subst, arith, inl, inr}
 use Rattle.std.specs.List.{AllByRecursion, AllZip}
 use Rattle.std.proofs.lemmas.List.{length-map}
 use Rattle.std.proofs.lemmas.List.Elements.{All-from_recursion}
@@ -32,10 +32,11 @@ use Rattle.gq_plan.specs.Soundness.{IsSound}
 use Rattle.gq_plan.specs.declared.ExistsPart.{ExistsPart}
 use Rattle.gq_plan.specs.declared.Plan as code_plan
 use Rattle.gq_plan.specs.declared.typed.Typed.{Typed}
-use Rattle.gq_render.specs.Texts.{line, refusal_line}
+use Rattle.gq_render.specs.Texts.{name_text}
 use Rattle.gq_reply.specs.BindLines.{bind_line}
 use Rattle.gq_reply.specs.steps.BindLines.{bind_tone}
 use Rattle.gq_reply.specs.Bindings.{bind_refusal}
+use Rattle.gq_reply.specs.ErrorLines.{error_line}
 use Rattle.gq_reply.specs.Replies.{AreBehind, Context, IsAsked, IsBlank, IsRefused, IsReply, IsStopped, IsText, IsTurn, RepliesWith, asked_by, memory_line, params_behind, question, refusal_text}
 use Rattle.gq_reply.specs.ReplyTexts.{columns_each, fault_text, many_text, rows_text, spent_text}
 use Rattle.gq_reply.specs.steps.Steps.{MayAsk, MaySet, MayShow, Replied, WantsMemory, answer_text, behind_set, toned}
@@ -45,7 +46,8 @@ use Rattle.gq_session.specs.declared.answering.Tone.{Tone}
 use Rattle.gq_session.specs.declared.answering.Tone.TheVariants as tone
 use Rattle.gq_syntax.specs.Grammar.{Clauses, SpelledStatement}
 use Rattle.gq_syntax.specs.Spans.{SpelledQuery}
-use Rattle.gq_syntax.specs.Outcomes.{Cause, DepthAt, SpelledText, SyntaxAt, TooDeep, UnknownIn}
+use Rattle.gq_syntax.specs.RefusalNames.{name_of}
+use Rattle.gq_syntax.specs.Outcomes.{Cause, ComesWhere, DepthAt, SpelledText, SyntaxAt, TooDeep, UnknownIn}
 use Rattle.gq_syntax.specs.declared.refusal.SyntaxRefusal.{SyntaxRefusal}
 use Rattle.gq_syntax.specs.declared.refusal.SyntaxRefusal.TheVariants as refusal
 use Rattle.gq_ast.specs.declared.statement.Clause.{Clause}
@@ -117,27 +119,35 @@ depth_not_blank statement at (before, rest, stops, deep) blank =
 
 -- ---- refusals
 
--- a front and the number of a byte
-pub at_byte : (front : List ℕ) (at : ℕ) → refusal_line front [] (record { before = []; number = at } ∷ []) ≡ line (front ++ decimal at)
-at_byte front at = ap line (ap (λ f. f ++ (decimal at ++ [])) (append-nil front) ∙ ap (λ n. front ++ n) (append-nil (decimal at)))
-
 -- the line of a statement that the grammar refuses
 wrong : (c : Context) (params : List Param) (statement text : List ℕ) (why : SyntaxRefusal) → ¬ (IsBlank statement) → Cause statement params (Err why) → refusal_text why ≡ Some text
     → IsRefused c params statement text
 wrong c params statement text why written cause is = record { written = written; why = inl (record { why = why; cause = cause; is = is }) }
 
+-- what parse says of a refusal is its cause
+pub cause_of : (params : List Param) (statement : List ℕ) (why : SyntaxRefusal) → ((at : ℕ) → ComesWhere (lexed statement ≡ Err at) (Err (refusal.Lex at)) (Err why))
+    → ((at : ℕ) → ComesWhere (SyntaxAt statement at) (Err (refusal.Syntax at)) (Err why)) → ((at : ℕ) → ComesWhere (DepthAt statement at) (Err (refusal.Depth at)) (Err why))
+    → ((name : List ℕ) → ComesWhere (UnknownIn statement params name) (Err (refusal.UnknownParameter name)) (Err why)) → Cause statement params (Err why)
+cause_of params statement (refusal.Lex at) lex syntax depth unknown = (lex at).0 refl
+cause_of params statement (refusal.Syntax at) lex syntax depth unknown = (syntax at).0 refl
+cause_of params statement (refusal.Depth at) lex syntax depth unknown = (depth at).0 refl
+cause_of params statement (refusal.UnknownParameter name) lex syntax depth unknown = (unknown name).0 refl
+cause_of params statement refusal.Memory lex syntax depth unknown = tt
+
 module _ (c : Context) (params : List Param) (statement : List ℕ) where
-  pub wrong_lex : (at : ℕ) → lexed statement ≡ Err at → IsReply c params statement tone.Refused (line (codes "error: Lex at byte " ++ decimal at))
-  wrong_lex at cause = wrong c params statement _ (refusal.Lex at) (lex_not_blank statement at cause) cause refl
+  -- the lines are made of the names
+  pub wrong_lex : (why : List ℕ) (at : ℕ) → why ≡ name_of (refusal.Lex at) → lexed statement ≡ Err at → IsReply c params statement tone.Refused (error_line (why ++ codes " at byte " ++ decimal at))
+  wrong_lex why at named cause = rw named (wrong c params statement _ (refusal.Lex at) (lex_not_blank statement at cause) cause refl)
 
-  pub wrong_syntax : (at : ℕ) → ¬ (IsBlank statement) → SyntaxAt statement at → IsReply c params statement tone.Refused (line (codes "error: Syntax at byte " ++ decimal at))
-  wrong_syntax at written cause = wrong c params statement _ (refusal.Syntax at) written cause refl
+  pub wrong_syntax : (why : List ℕ) (at : ℕ) → why ≡ name_of (refusal.Syntax at) → ¬ (IsBlank statement) → SyntaxAt statement at
+      → IsReply c params statement tone.Refused (error_line (why ++ codes " at byte " ++ decimal at))
+  wrong_syntax why at named written cause = rw named (wrong c params statement _ (refusal.Syntax at) written cause refl)
 
-  pub wrong_depth : (at : ℕ) → DepthAt statement at → IsReply c params statement tone.Refused (line (codes "error: Depth at byte " ++ decimal at))
-  wrong_depth at cause = wrong c params statement _ (refusal.Depth at) (depth_not_blank statement at cause) cause refl
+  pub wrong_depth : (why : List ℕ) (at : ℕ) → why ≡ name_of (refusal.Depth at) → DepthAt statement at → IsReply c params statement tone.Refused (error_line (why ++ codes " at byte " ++ decimal at))
+  wrong_depth why at named cause = rw named (wrong c params statement _ (refusal.Depth at) (depth_not_blank statement at cause) cause refl)
 
-  pub wrong_unknown : (name : List ℕ) → UnknownIn statement params name → IsReply c params statement tone.Refused (refusal_line (codes "error: UnknownParameter ") name [])
-  wrong_unknown name cause = wrong c params statement _ (refusal.UnknownParameter name) (unknown_not_blank statement params name cause) cause refl
+  pub wrong_unknown : (why name : List ℕ) → why ≡ name_of (refusal.UnknownParameter name) → UnknownIn statement params name → IsReply c params statement tone.Refused (error_line (why ++ codes " " ++ name_text name))
+  wrong_unknown why name named cause = rw named (wrong c params statement _ (refusal.UnknownParameter name) (unknown_not_blank statement params name cause) cause refl)
 
   -- what becomes of a statement that its tokens spell
   module _ (form : Statement) (spelled : SpelledText statement params form) where

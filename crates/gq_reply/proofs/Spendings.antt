@@ -1,16 +1,7 @@
 -- The lines of what pipelines spent, one after another.
-use Rattle.std.proofs.Common.{◌≡◌, ◌∙◌, ◌+◌, ◌<◌, ◌++◌, ℕ, zero, suc, List, [], ◌∷◌, codes, drop, get_or, length, take, refl, sym, ap, append_assoc, append-nil, arith}
+use Rattle.std.proofs.Common.{◌≡◌, ◌∙◌, ◌+◌, ◌<◌, ◌++◌, ℕ, zero, suc, List, [], ◌∷◌, drop, get_or, length, take, refl, sym, ap, append_assoc, append-nil, arith}
 use Rattle.gq_homes.specs.declared.spent.Spent.{Spent}
 use Rattle.gq_reply.specs.ReplyTexts.{spent_line, spent_text}
-
--- three counts with their words, and the end of the line
-pub one_line : (a b c : List ℕ) (s t u : List ℕ) → ((a ++ s) ++ ((b ++ t) ++ ((c ++ u) ++ []))) ++ codes "\n" ≡ (a ++ s ++ b ++ t ++ c ++ u) ++ codes "\n"
-one_line a b c s t u =
-    ap (λ l. l ++ codes "\n")
-    (ap (λ l. (a ++ s) ++ ((b ++ t) ++ l)) (append-nil (c ++ u))
-    ∙ sym (append_assoc (a ++ s) (b ++ t) (c ++ u))
-    ∙ ap (λ l. l ++ (c ++ u)) (sym (append_assoc (a ++ s) b t))
-    ∙ sym (append_assoc (((a ++ s) ++ b) ++ t) c u))
 
 -- a line more
 spent_more : (k : ℕ) (ss : List Spent) (i : ℕ) (d : Spent) → i < length ss → spent_text k (take i ss) ++ spent_line (k + i) (get_or ss i d) ≡ spent_text k (take (suc i) ss)

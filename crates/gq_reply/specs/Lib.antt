@@ -1,4 +1,5 @@
 pub mod Arrows
+pub mod ErrorLines
 pub mod BindLines
 pub mod Bindings
 pub mod ReplyTexts

@@ -17,9 +17,10 @@ use Rattle.gq_explain.specs.Schema.{schema_text}
 use Rattle.gq_expr.specs.declared.Fault.{Fault}
 use Rattle.gq_lexer.specs.Tokens.{lexed}
 use Rattle.gq_plan.specs.declared.Bound.{Bound}
-use Rattle.gq_render.specs.Texts.{line, param_line, refusal_line}
+use Rattle.gq_render.specs.Texts.{name_text, param_line}
 use Rattle.gq_reply.specs.BindLines.{bind_line}
 use Rattle.gq_reply.specs.Bindings.{bind_refusal}
+use Rattle.gq_reply.specs.ErrorLines.{error_line}
 use Rattle.gq_reply.specs.ReplyTexts.{IsPlanText, fault_text, many_text, reply_text, rows_text, spent_text}
 use Rattle.gq_reply.specs.declared.replier.Extent.{Extent}
 use Rattle.gq_reply.specs.declared.replier.Replier.{Replier}
@@ -28,6 +29,7 @@ use Rattle.gq_session.specs.Tones.{IsMemory}
 use Rattle.gq_session.specs.declared.answering.Tone.{Tone}
 use Rattle.gq_session.specs.declared.answering.Tone.TheVariants as tone
 use Rattle.gq_syntax.specs.Outcomes.{Cause, SpelledText}
+use Rattle.gq_syntax.specs.RefusalNames.{name_of}
 use Rattle.gq_syntax.specs.declared.refusal.SyntaxRefusal.{SyntaxRefusal}
 use Rattle.gq_syntax.specs.declared.refusal.SyntaxRefusal.TheVariants as refusal
 use Rattle.gq_ast.specs.declared.statement.Query.{Query}
@@ -118,10 +120,10 @@ IsAnswered c params statement text =
 -- the line of a statement that is no text, has no tokens, or is spelled by no statement within the allowed nesting, with the
 -- place where it goes wrong; or of one with a name behind a `$` that is no parameter
 abbrev pub refusal_text : SyntaxRefusal → Option (List ℕ)
-refusal_text (refusal.Lex at) = Some (line (codes "error: Lex at byte " ++ decimal at))
-refusal_text (refusal.Syntax at) = Some (line (codes "error: Syntax at byte " ++ decimal at))
-refusal_text (refusal.Depth at) = Some (line (codes "error: Depth at byte " ++ decimal at))
-refusal_text (refusal.UnknownParameter name) = Some (refusal_line (codes "error: UnknownParameter ") name [])
+refusal_text (refusal.Lex at) = Some (error_line (name_of (refusal.Lex at) ++ codes " at byte " ++ decimal at))
+refusal_text (refusal.Syntax at) = Some (error_line (name_of (refusal.Syntax at) ++ codes " at byte " ++ decimal at))
+refusal_text (refusal.Depth at) = Some (error_line (name_of (refusal.Depth at) ++ codes " at byte " ++ decimal at))
+refusal_text (refusal.UnknownParameter name) = Some (error_line (name_of (refusal.UnknownParameter name) ++ codes " " ++ name_text name))
 refusal_text refusal.Memory = None
 
 -- the statement is wrong, by the grammar, and this line says where, or it names no parameter, and this line says which
@@ -144,7 +146,7 @@ pub record IsOverfull (params : List Param) (statement text : List ℕ) : Type 0
   pub value : Literal
   pub spelled : SpelledText statement params (tree.Param name value)
   pub full : IsFull name params
-  pub is : text ≡ line (codes "error: TooManyParameters")
+  pub is : text ≡ error_line (codes "TooManyParameters")
 
 -- a query has no rows: an outcome that is looked at is this fault, or too many rows are kept
 abbrev pub IsStopped : Context → List Param → List ℕ → List ℕ → Type 0
@@ -160,7 +162,7 @@ pub record IsRefused (c : Context) (params : List Param) (statement text : List 
 
 -- the line of a statement for which there was not enough memory, or which asks for more than one statement may take
 abbrev pub memory_line : List ℕ
-memory_line = line (codes "error: Memory")
+memory_line = error_line (codes "Memory")
 
 -- the replies that a statement may have with these parameters, by their tones: any statement may want memory, by either cause
 abbrev pub IsReply : Context → List Param → List ℕ → Tone → List ℕ → Type 0

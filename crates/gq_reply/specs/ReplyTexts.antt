@@ -11,29 +11,28 @@ use Rattle.gq_order.specs.declared.named.Order.{Order}
 use Rattle.gq_plan.specs.Columns.{columns_of}
 use Rattle.gq_explain.specs.Costs.{costs_text}
 use Rattle.gq_explain.specs.Plans.{plan_text}
+use Rattle.gq_expr.specs.FaultNames.{fault_name}
 use Rattle.gq_expr.specs.declared.Fault.{Fault}
-use Rattle.gq_expr.specs.declared.Fault.TheVariants as fault
 use Rattle.gq_plan.specs.Covers.{Covers}
 use Rattle.gq_plan.specs.Plans.{plan_of}
 use Rattle.gq_plan.specs.declared.Bound.{Bound}
 use Rattle.gq_plan.specs.declared.Plan as code_plan
 use Rattle.gq_plan.specs.declared.typed.Typed.{Typed}
 use Rattle.gq_render.specs.Listings.{ends_text, listing_text}
-use Rattle.gq_render.specs.Texts.{line, refusal_line}
+use Rattle.gq_render.specs.Texts.{line}
 use Rattle.gq_homes.specs.declared.spent.Spent.{Spent}
 use Rattle.gq_reply.specs.Arrows.{trail_arrows}
+use Rattle.gq_reply.specs.ErrorLines.{error_line}
 use Rattle.gq_reply.specs.declared.replier.Extent.{Extent}
 use Rattle.gq_reply.specs.declared.replier.Extent.TheVariants as extent
 use Rattle.gq_ast.specs.declared.statement.Query.{Query}
 
 -- the lines that say why there are no rows
 abbrev pub fault_text : Fault → List ℕ
-fault_text fault.Overflow = refusal_line (codes "error: Fault Overflow") [] []
-fault_text fault.DivideByZero = refusal_line (codes "error: Fault DivideByZero") [] []
-fault_text fault.Kind = refusal_line (codes "error: Fault Kind") [] []
+fault_text why = error_line (codes "Fault " ++ fault_name why)
 
 abbrev pub many_text : ℕ → List ℕ
-many_text most = refusal_line (codes "error: TooManyRows ") [] (record { before = []; number = most } ∷ [])
+many_text most = error_line (codes "TooManyRows " ++ decimal most)
 
 -- rows in full: a header, a line for each and their number; or in short: the first, the last and their number
 abbrev pub rows_text : Extent → Graph → Bound → List (List Val) → List ℕ

@@ -1,4 +1,3 @@
 pub mod BindLines
-pub mod Counts
 pub mod Steps
 pub mod Gaps

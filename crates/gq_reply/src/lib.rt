@@ -7,6 +7,7 @@
 mod arrows;
 mod bind_line;
 mod blank;
+mod error_line;
 mod param;
 mod plans;
 mod query;

@@ -5,10 +5,11 @@ ghost use Rattle.gq_reply.specs.steps.Steps.{MaySet, Replied, behind_set};
 ghost use Rattle.gq_session.specs.Sessions.{span_of};
 ghost use Rattle.gq_tokens.specs.Parameters.{are_params};
 
+use crate::error_line::write_error;
 use crate::tone::{reply_memory, toned};
 use gq_base::{Literal, Memory, Text};
-use gq_io::{Failed, Sink, write_all};
-use gq_render::write_param;
+use gq_io::{Failed, Sink};
+use gq_render::{Piece, write_param};
 use gq_session::Tone;
 use gq_syntax::{ParamRefusal, Params};
 
@@ -35,7 +36,7 @@ pub fn reply_to_param<O: Sink>(
             None => unreachable!(),
         },
         Err(ParamRefusal::TooMany) => toned(
-            write_all(out, b"error: TooManyParameters\n"),
+            write_error(out, "TooManyParameters", "", Piece::Plain("")),
             Tone::Refused,
         ),
         Err(ParamRefusal::Memory) => reply_memory(out, Memory::Exhausted),

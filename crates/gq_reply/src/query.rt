@@ -10,6 +10,7 @@ ghost use Rattle.gq_reply.specs.ReplyTexts.{fault_text, many_text, rows_text};
 ghost use Rattle.gq_reply.specs.steps.Steps.{Asks, answer_text};
 ghost use Rattle.gq_session.specs.Sessions.{span_of};
 
+use crate::error_line::write_error;
 use crate::replier::{Extent, Replier};
 use crate::spent::write_spent;
 use crate::tone::{reply_memory, toned};
@@ -18,19 +19,16 @@ use gq_expr::Fault;
 use gq_io::{Failed, Sink};
 use gq_plan::Bound;
 use gq_pool::VectorPool;
-use gq_render::{Place, write_ends, write_listing, write_refusal};
+use gq_render::{Piece, write_ends, write_listing};
 use gq_rows::Listing;
 use gq_session::Tone;
 
+// Writes the line of a query that has a fault.
 fn write_fault<O: Sink>(out: &mut O, fault: Fault) -> Result<(), Failed>
     ensures bytes { Writes (O.taken out.old) (O.taken out.new) (fault_text fault) result }
     ensures cause { HasCause (O.faults out.old) (O.faults out.new) result }
 {
-    match fault {
-        Fault::Overflow => write_refusal(out, "error: Fault Overflow", "", &[]),
-        Fault::DivideByZero => write_refusal(out, "error: Fault DivideByZero", "", &[]),
-        Fault::Kind => write_refusal(out, "error: Fault Kind", "", &[]),
-    }
+    write_error(out, "Fault", " ", Piece::Plain(fault.name()))
 }
 
 // Writes the line of a query that would keep more rows than these.
@@ -38,11 +36,7 @@ fn write_many<O: Sink>(out: &mut O, rows: u32) -> Result<(), Failed>
     ensures bytes { Writes (O.taken out.old) (O.taken out.new) (many_text rows) result }
     ensures cause { HasCause (O.faults out.old) (O.faults out.new) result }
 {
-    let place = Place {
-        before: "",
-        number: rows,
-    };
-    write_refusal(out, "error: TooManyRows ", "", &[place])
+    write_error(out, "TooManyRows", " ", Piece::Number(rows as usize))
 }
 
 impl Replier<'_> {

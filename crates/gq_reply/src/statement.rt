@@ -1,22 +1,21 @@
 //! The reply to a statement.
 
-ghost use Rattle.std.specs.Prelude.{◌≡◌, ◌≤◌, ◌++◌, List, length, decimal, true, IfOk};
-ghost use Rattle.gq_io.specs.Causes.{HasCause};
-ghost use Rattle.gq_io.specs.Outside.{Writes};
+ghost use Rattle.std.specs.Prelude.{◌≡◌, ◌≤◌, ℕ, List, length, true, IfOk, Err};
 ghost use Rattle.gq_pool.specs.Pool.{spare_of};
-ghost use Rattle.gq_render.specs.Texts.{line};
-ghost use Rattle.gq_reply.specs.BindLines.{bind_line};
 ghost use Rattle.gq_reply.specs.Replies.{AreBehind, IsReply, asked_by, context_of};
 ghost use Rattle.gq_reply.specs.steps.Steps.{Replied};
 ghost use Rattle.gq_session.specs.Sessions.{span_of};
-ghost use Rattle.gq_syntax.specs.Outcomes.{SpelledText, SyntaxAt};
+ghost use Rattle.gq_syntax.specs.Outcomes.{Cause, SpelledText, SyntaxAt};
+ghost use Rattle.gq_syntax.specs.RefusalNames.{name_of};
 ghost use Rattle.gq_syntax.specs.Spans.{SpelledQuery};
+ghost use Rattle.gq_syntax.specs.declared.refusal.SyntaxRefusal.TheVariants as refused;
 ghost use Rattle.gq_ast.specs.declared.statement.Statement.TheVariants as tree;
 ghost use Rattle.gq_tokens.specs.Parameters.{are_params};
 ghost use Rattle.gq_tokens.specs.declared.params.Param.{Param};
 
-use crate::bind_line::{named, tone_of, write_bind_refusal};
+use crate::bind_line::{tone_of, write_bind_refusal};
 use crate::blank::{is_blank, is_white};
+use crate::error_line::{write_at, write_named};
 use crate::param::reply_to_param;
 use crate::replier::{Replier, Workspace};
 use crate::tone::{reply_memory, toned};
@@ -25,22 +24,8 @@ use gq_binder::bind;
 use gq_explain::write_schema;
 use gq_io::{Failed, Sink};
 use gq_pool::VectorPool;
-use gq_render::{Place, write_refusal};
 use gq_session::Tone;
 use gq_syntax::{Query, Statement, SyntaxRefusal, parse};
-
-// Writes a line that ends in the number of a byte.
-fn write_at<O: Sink>(out: &mut O, front: &str, at: u32) -> Result<(), Failed>
-    ensures bytes { Writes (O.taken out.old) (O.taken out.new)
-        (line (front.now ++ decimal at)) result }
-    ensures cause { HasCause (O.faults out.old) (O.faults out.new) result }
-{
-    let place = Place {
-        before: "",
-        number: at,
-    };
-    write_refusal(out, front, "", &[place])
-}
 
 impl Replier<'_> {
     // Replies to the query that a statement's tokens spell, behind `:profile` or not.
@@ -112,13 +97,15 @@ impl Replier<'_> {
         }
     }
 
-    // Replies to a statement that is spelled by no tree.
+    // Replies to a statement that is spelled by no tree, as it goes wrong there.
     fn reply_to_syntax<O: Sink>(
         &self,
         out: &mut O,
         statement: &[u8],
+        why: &str,
         at: u32,
     ) -> Result<Tone, Failed>
+        requires named { why.now ≡ name_of (refused.Syntax at) }
         requires cause { SyntaxAt statement.now at }
         ensures replies { (params : List Param)
             → Replied (IsReply (context_of self.now) params statement.now)
@@ -128,8 +115,34 @@ impl Replier<'_> {
     {
         match is_blank(self.alloc, statement, at) {
             Ok(true) => Ok(Tone::Good),
-            Ok(false) => toned(write_at(out, "error: Syntax at byte ", at), Tone::Refused),
+            Ok(false) => toned(write_at(out, why, at), Tone::Refused),
             Err(memory) => reply_memory(out, memory),
+        }
+    }
+
+    // Replies to a statement that is refused by its tokens. The parameters stay.
+    fn reply_to_refused<O: Sink>(
+        &self,
+        out: &mut O,
+        statement: &[u8],
+        refusal: &SyntaxRefusal,
+    ) -> Result<Tone, Failed>
+        requires syntax { (at : ℕ) → refusal.now ≡ refused.Syntax at → SyntaxAt statement.now at }
+        ensures replies { (params : List Param) → Cause statement.now params (Err refusal.now)
+            → Replied (IsReply (context_of self.now) params statement.now)
+            (span_of O.taken O.faults out.old out.new) result }
+        ensures behind { IfOk result (λ t. (params : List Param)
+            → AreBehind params statement.now t params) }
+    {
+        let why = refusal.name();
+        match refusal {
+            SyntaxRefusal::Lex { at } => toned(write_at(out, why, *at), Tone::Refused),
+            SyntaxRefusal::Syntax { at } => self.reply_to_syntax(out, statement, why, *at),
+            SyntaxRefusal::Depth { at } => toned(write_at(out, why, *at), Tone::Refused),
+            SyntaxRefusal::UnknownParameter { name } => {
+                toned(write_named(out, why, name), Tone::Refused)
+            }
+            SyntaxRefusal::Memory => reply_memory(out, Memory::Exhausted),
         }
     }
 
@@ -156,17 +169,7 @@ impl Replier<'_> {
         }
         match parse(self.alloc, statement, &workspace.params) {
             Ok(tree) => self.reply_to_tree(out, workspace, statement, tree),
-            Err(SyntaxRefusal::Lex { at }) => {
-                toned(write_at(out, "error: Lex at byte ", at), Tone::Refused)
-            }
-            Err(SyntaxRefusal::Depth { at }) => {
-                toned(write_at(out, "error: Depth at byte ", at), Tone::Refused)
-            }
-            Err(SyntaxRefusal::Syntax { at }) => self.reply_to_syntax(out, statement, at),
-            Err(SyntaxRefusal::UnknownParameter { name }) => {
-                toned(named(out, "error: UnknownParameter ", &name), Tone::Refused)
-            }
-            Err(SyntaxRefusal::Memory) => reply_memory(out, Memory::Exhausted),
+            Err(refusal) => self.reply_to_refused(out, statement, &refusal),
         }
     }
 }

@@ -8,7 +8,7 @@ ghost use Rattle.gq_shell.specs.LoadLines.{place_line};
 use gq_base::Text;
 use gq_io::{Failed, Sink, write_all};
 use gq_loader::LoadRefusal;
-use gq_render::{Place, write_refusal};
+use gq_render::{Piece, write_line};
 
 /// Writes the line of a refusal: its name, and where it is.
 pub fn write_load_line<O: Sink>(out: &mut O, refusal: &LoadRefusal) -> Result<(), Failed>
@@ -50,37 +50,37 @@ fn write_place<O: Sink>(out: &mut O, refusal: &LoadRefusal) -> Result<(), Failed
         LoadRefusal::KeyRepeated { file, number } => in_record(out, file, *number),
         LoadRefusal::NotSingle { file, number } => in_record(out, file, *number),
         LoadRefusal::ReadFault { name } => in_file(out, name),
-        LoadRefusal::Memory => write_refusal(out, "", "", &[]),
+        LoadRefusal::Memory => write_line(out, &[]),
     }
 }
 
-fn on_line<O: Sink>(out: &mut O, line: u32) -> Result<(), Failed>
-    ensures bytes { Writes (O.taken out.old) (O.taken out.new) (on_line line) result }
+fn on_line<O: Sink>(out: &mut O, number: u32) -> Result<(), Failed>
+    ensures bytes { Writes (O.taken out.old) (O.taken out.new) (on_line number) result }
     ensures cause { HasCause (O.faults out.old) (O.faults out.new) result }
 {
-    let places = [Place {
-        before: " line ",
-        number: line,
-    }];
-    write_refusal(out, "", "", places.as_slice())
+    let pieces = [Piece::Plain(" line "), Piece::Number(number as usize)];
+    write_line(out, &pieces)
 }
 
 fn in_file<O: Sink>(out: &mut O, file: &Text) -> Result<(), Failed>
     ensures bytes { Writes (O.taken out.old) (O.taken out.new) (in_file file.now) result }
     ensures cause { HasCause (O.faults out.old) (O.faults out.new) result }
 {
-    write_refusal(out, " ", file.as_str(), &[])
+    let pieces = [Piece::Plain(" "), Piece::Name(file.as_str())];
+    write_line(out, &pieces)
 }
 
 fn in_record<O: Sink>(out: &mut O, file: &Text, number: u32) -> Result<(), Failed>
     ensures bytes { Writes (O.taken out.old) (O.taken out.new) (in_record file.now number) result }
     ensures cause { HasCause (O.faults out.old) (O.faults out.new) result }
 {
-    let places = [Place {
-        before: " record ",
-        number,
-    }];
-    write_refusal(out, " ", file.as_str(), places.as_slice())
+    let pieces = [
+        Piece::Plain(" "),
+        Piece::Name(file.as_str()),
+        Piece::Plain(" record "),
+        Piece::Number(number as usize),
+    ];
+    write_line(out, &pieces)
 }
 
 fn in_field<O: Sink>(out: &mut O, file: &Text, number: u32, column: u32) -> Result<(), Failed>
@@ -88,15 +88,13 @@ fn in_field<O: Sink>(out: &mut O, file: &Text, number: u32, column: u32) -> Resu
         (in_field file.now number column) result }
     ensures cause { HasCause (O.faults out.old) (O.faults out.new) result }
 {
-    let places = [
-        Place {
-            before: " record ",
-            number,
-        },
-        Place {
-            before: " column ",
-            number: column,
-        },
+    let pieces = [
+        Piece::Plain(" "),
+        Piece::Name(file.as_str()),
+        Piece::Plain(" record "),
+        Piece::Number(number as usize),
+        Piece::Plain(" column "),
+        Piece::Number(column as usize),
     ];
-    write_refusal(out, " ", file.as_str(), places.as_slice())
+    write_line(out, &pieces)
 }

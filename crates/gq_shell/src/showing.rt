@@ -15,7 +15,7 @@ use crate::workspace::new_workspace;
 use gq_base::Memory;
 use gq_execute::Settings;
 use gq_io::{Failed, Sink};
-use gq_render::{Place, write_refusal};
+use gq_render::{Piece, write_line};
 use gq_reply::{Extent, Replier, Workspace};
 use gq_sample::{question, sample};
 use gq_session::{Answerer, Stop, Tone};
@@ -26,8 +26,8 @@ fn write_label<O: Sink>(out: &mut O, number: u32) -> Result<(), Failed>
     ensures bytes { Writes (O.taken out.old) (O.taken out.new) (label_text number) result }
     ensures cause { HasCause (O.faults out.old) (O.faults out.new) result }
 {
-    let place = Place { before: "", number };
-    write_refusal(out, "Q", "", &[place])
+    let pieces = [Piece::Plain("Q"), Piece::Number(number as usize)];
+    write_line(out, &pieces)
 }
 
 // Answers the question of this number.

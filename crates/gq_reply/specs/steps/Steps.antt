@@ -18,13 +18,14 @@ use Rattle.gq_plan.specs.Plans.{plan_of}
 use Rattle.gq_plan.specs.declared.Bound.{Bound}
 use Rattle.gq_homes.specs.declared.spent.Spent.{Spent}
 use Rattle.gq_reply.specs.Arrows.{trail_arrows}
+use Rattle.gq_reply.specs.ErrorLines.{error_line}
 use Rattle.gq_reply.specs.Replies.{Context, IsText, memory_line, question}
 use Rattle.gq_reply.specs.ReplyTexts.{IsPlanText, columns_each, fault_text, many_text, rows_text, spent_text}
 use Rattle.gq_reply.specs.declared.plans.ShownPlans.{ShownPlans}
 use Rattle.gq_session.specs.Sessions.{Span}
 use Rattle.gq_session.specs.declared.answering.Tone.{Tone}
 use Rattle.gq_session.specs.declared.answering.Tone.TheVariants as tone
-use Rattle.gq_render.specs.Texts.{line, param_line}
+use Rattle.gq_render.specs.Texts.{param_line}
 use Rattle.gq_ast.specs.declared.statement.Query.{Query}
 use Rattle.gq_tokens.specs.Parameters.{IsFull, with_value}
 use Rattle.gq_tokens.specs.Words.{Name}
@@ -85,7 +86,7 @@ MayShow c query bound (tone.Memory why) text = text ≡ memory_line
 -- the replies to a statement that sets a parameter
 abbrev pub MaySet : List Param → Name → Literal → Tone → List ℕ → Type 0
 MaySet params name value tone.Good text = (¬ (IsFull name params)) × (text ≡ param_line name (literal_val value))
-MaySet params name value tone.Refused text = IsFull name params × (text ≡ line (codes "error: TooManyParameters"))
+MaySet params name value tone.Refused text = IsFull name params × (text ≡ error_line (codes "TooManyParameters"))
 MaySet params name value (tone.Memory why) text = text ≡ memory_line
 
 -- the parameters behind it

@@ -3,7 +3,7 @@ use Rattle.std.specs.List.{range_with_len}
 use Rattle.gq_explain.specs.Plans.{optional_at}
 use Rattle.gq_io.specs.Putting.{Put}
 use Rattle.gq_render.proofs.Sequence.{next_broke, put_then}
-use Rattle.gq_explain.proofs.Tables.{numbers_all, numbers_next, numbers_split}
+use Rattle.gq_render.proofs.Numbers.{numbers_all, numbers_next, numbers_split}
 use Rattle.gq_explain.proofs.counts.put_optionals.Goals as goal
 
 pub returns-in_err-put_optional_at-clause-bytes : goal.returns-in_err-put_optional_at-clause-bytes

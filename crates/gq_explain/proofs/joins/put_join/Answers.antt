@@ -1,6 +1,6 @@
 use Rattle.std.proofs.Common.{List, ℕ, [], ◌∷◌, ◌++◌, codes}
-use Rattle.gq_explain.proofs.Chains.{chain-is}
-use Rattle.gq_explain.specs.Pieces.{indent}
+use Rattle.gq_render.proofs.Chains.{chain-is}
+use Rattle.gq_render.specs.Pieces.{indent}
 use Rattle.gq_explain.specs.Plans.{keys_text}
 use Rattle.gq_render.proofs.Sequence.{first_broke, puts_then}
 use Rattle.gq_explain.proofs.joins.put_join.Goals as goal

@@ -6,7 +6,7 @@ use Rattle.gq_render.specs.Texts.{name_text}
 use Rattle.gq_plan.specs.declared.Bound.{Bound}
 use Rattle.gq_plan.specs.declared.Typed.{Typed}
 use Rattle.gq_explain.specs.Plans.{keys_text, name_at, next_key}
-use Rattle.gq_explain.proofs.Chains.{chain-is}
+use Rattle.gq_render.proofs.Chains.{chain-is}
 use Rattle.gq_render.proofs.Sequence.{first_broke, puts_then}
 use Rattle.gq_explain.proofs.joins.put_keys.Goals as goal
 

@@ -17,7 +17,7 @@ returns-in-Ok-true-clause-blank g c = λ params.
 pub returns-in-Ok-false-clause-replies : goal.returns-in-Ok-false-clause-replies
 returns-in-Ok-false-clause-replies g c = λ params.
     let never = rw c.in-Ok-false.field-0-test at c.in-Ok-false.ensures in
-    replied _ tone.Refused _ (wrong_syntax _ params _ _ (λ blank. cc (never.1 blank)) c.requires.cause) _ _ c.write_at.ensures.bytes c.write_at.ensures.cause _ c.toned.ensures
+    replied _ tone.Refused _ (wrong_syntax _ params _ _ _ c.requires.named (λ blank. cc (never.1 blank)) c.requires.cause) _ _ c.write_at.ensures.bytes c.write_at.ensures.cause _ c.toned.ensures
 
 pub returns-in-Ok-false-clause-blank : goal.returns-in-Ok-false-clause-blank
 returns-in-Ok-false-clause-blank g c = by_tone _ tone.Refused (λ params. refl) _ _ c.toned.ensures
