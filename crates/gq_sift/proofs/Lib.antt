@@ -1,5 +1,6 @@
 pub mod Apart
 pub mod Ascending
+pub mod Blocked
 pub mod Closed
 pub mod Cutting
 pub mod Ended
@@ -15,5 +16,7 @@ pub mod Refused
 pub mod Scanned
 pub mod Sifting
 pub mod Sourced
+pub mod Standing
 pub mod Told
 pub mod Unlooped
+pub mod Walking

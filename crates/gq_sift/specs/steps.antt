@@ -1,3 +1,4 @@
+pub mod Blocks
 pub mod Candidates
 pub mod Chains
 pub mod Differing
@@ -5,5 +6,6 @@ pub mod Ends
 pub mod Filters
 pub mod Judged
 pub mod Numbers
+pub mod Parting
 pub mod Refused
 pub mod RowTests

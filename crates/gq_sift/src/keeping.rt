@@ -7,6 +7,7 @@ ghost use Rattle.gq_steps.specs.Matches.{AreMatches};
 ghost use Rattle.gq_steps.specs.Moves.{run_of, IsRun, IsHeld};
 ghost use Rattle.gq_steps.specs.Tries.{tries};
 
+use crate::blocks::sift_chain;
 use crate::chain::{chain_of, judge_place};
 use crate::closing::candidates;
 use crate::filtering::{filter, filters};
@@ -97,6 +98,9 @@ pub fn sift_among(
     ensures { IsSifted (run_of plan_run.now) group first count row.old row.new marks.new }
 {
     let chain = chain_of(group);
+    if sift_chain(plan_run, group, chain, first, count, row, marks) {
+        return;
+    }
     let mut place = 0;
     'places: while let Some(offset) = marks.next_from(place) {
         if !judge_place(plan_run, group, chain, matches, first + offset, row) {

@@ -3,6 +3,8 @@
 //! stands on the steps of `gq_steps` and the marks of `gq_bits`.
 #![tactic(auto)]
 
+mod block_steps;
+mod blocks;
 mod chain;
 mod closing;
 mod cuts;

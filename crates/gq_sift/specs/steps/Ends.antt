@@ -1,5 +1,5 @@
 -- Relationships of a table that differ where the rows at their ends do.
-use Rattle.std.specs.Prelude.{ℕ, ◌<◌, ◌==◌, ◌||◌, not, Bool, Option, Some, None, length, slice_get, slice_index}
+use Rattle.std.specs.Prelude.{◌≡◌, ℕ, ◌<◌, ◌==◌, ◌||◌, not, Bool, Option, Some, None, length, slice_get, slice_index}
 use Rattle.gq_plan.specs.Meaning.{holds}
 use Rattle.gq_plan.specs.declared.assignment.Assignment.{Assignment}
 use Rattle.gq_plan.specs.declared.typed.RelPair.{RelPair}
@@ -40,3 +40,9 @@ pub record HasEnds (y : Typed) (row : Assignment) (x : ℕ) : Type 0 where
 pub record HaveEnds (y : Typed) (row : Assignment) (p : RelPair) : Type 0 where
   pub one : HasEnds y row p.first
   pub other : HasEnds y row p.second
+
+-- a pair is there, and both of it
+pub record HasPair (y : Typed) (row : Assignment) (number : ℕ) : Type 0 where
+  pub pair : RelPair
+  pub there : slice_get y.pairs number ≡ Some pair
+  pub ends : HaveEnds y row pair

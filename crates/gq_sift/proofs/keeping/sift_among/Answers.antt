@@ -1,6 +1,7 @@
 use Rattle.std.proofs.Common.{◌≡◌, ◌+◌, ◌<◌, ◌≤◌, ℕ, true, false, sym, ◌∙◌, subst, arith}
 use Rattle.std.specs.Prelude.{slice_set, MatchOption}
 use Rattle.gq_bits.specs.Places.{is_marked}
+use Rattle.gq_sift.specs.Among.{IsAmong}
 use Rattle.gq_sift.specs.steps.Judged.{IsJudged}
 use Rattle.gq_steps.specs.Moves.{run_of}
 use Rattle.gq_sift.proofs.Cutting.{chain_by, range_told}
@@ -9,8 +10,13 @@ use Rattle.gq_sift.proofs.Sifting.{IsSifting, sifting_from, sifting_kept, siftin
 use Rattle.gq_sift.proofs.keeping.sift_among.Goals as goal
 use Rattle.gq_sift.proofs.keeping.sift_among.Goals.{In-Some, then-not-judge_place, else-not-judge_place}
 
+pub returns-then-sift_chain : goal.returns-then-sift_chain
+returns-then-sift_chain c = c.sift_chain.ensures.told c.if-sift_chain.true
+
 pub places-init : goal.places-init
-places-init c = sifting_from (run_of c.args.plan_run.now) c.args.group c.args.first c.args.count c.args.row.now c.args.marks.now c.requires.held c.requires.among
+places-init c =
+    sifting_from (run_of c.args.plan_run.now) c.args.group c.args.first c.args.count c.args.row.now c.sift_chain.new.marks c.requires.held
+    (subst (IsAmong (run_of c.args.plan_run.now) c.args.group c.args.first c.args.count c.args.row.now) (sym (c.sift_chain.ensures.same c.if-sift_chain.false)) c.requires.among)
 
 -- what is told of the next marked place
 found : (c : In-Some) → (c.places.place ≤ c.in-Some.offset) × (is_marked c.places.marks c.in-Some.offset ≡ true)
