@@ -1,7 +1,7 @@
 -- In which group each variable of a plan that fits stands: as the step puts it that binds it, and in no later group than its number.
-use Rattle.std.proofs.Common.{◌≡◌, ◌∙◌, ◌<◌, ◌≤◌, ◌+◌, inl, inr, ap, sym, refl, ℕ, Bool, true, false, not, cond, ◌&&◌, ◌||◌, List, [], ◌∷◌, length, slice_get, nat_eq, nat_lt, arith, true≢false}
+use Rattle.std.proofs.Common.{◌≡◌, ◌∙◌, ◌<◌, ◌≤◌, ◌+◌, ap, sym, refl, ℕ, Bool, true, false, not, cond, ◌&&◌, ◌||◌, List, length, slice_get, nat_eq, nat_lt, arith, true≢false}
 use Rattle.std.specs.List.{list_all, range_with_len}
-use Rattle.std.proofs.lemmas.Bool.{and_parts, eqb-true, eq-eqb, not-true, or_cases}
+use Rattle.std.proofs.lemmas.Bool.{and_parts, eqb-true, eq-eqb, not-true}
 use Rattle.gq_base.specs.Catalogs.{Tables}
 use Rattle.gq_base.specs.declared.direction.Direction.{Direction}
 use Rattle.gq_law_groups.proofs.Following.{known_node, known_rel}
@@ -15,6 +15,7 @@ use Rattle.gq_plan.specs.Plans.{Plan, Done, Then, Step, Scan, Extend, Close, Joi
 use Rattle.gq_plan.specs.Shapes.{Places, put, place_step, places_after}
 use Rattle.gq_plan.specs.Soundness.{has_number}
 use Rattle.gq_plan.specs.declared.typed.Typed.{Typed}
+use Rattle.gq_law_groups.proofs.Ordered.{key_known}
 
 -- what is known is not what is new
 put_kept : (has : ℕ → Bool) (u v g : ℕ) (old : ℕ → ℕ) → has u ≡ false → has v ≡ true → put u g old v ≡ old v
@@ -116,14 +117,7 @@ module _ (catalog : Tables) (y : Typed) where
   unfolding fits_step
   keys_known side keys k h v =
       let a = and_parts (fits catalog y side none) (is_joined y keys (after side none) k) h in
-      go keys (and_parts (list_all (λ u. (after side none).nodes u && k.nodes u) keys) _ a.1).0
-    where
-      go : (vs : List ℕ) → list_all (λ u. (after side none).nodes u && k.nodes u) vs ≡ true → has_number vs v ≡ true → k.nodes v ≡ true
-      go [] h e = absurd (true≢false (sym e))
-      go (u ∷ vs) h e =
-          let parts = and_parts ((after side none).nodes u && k.nodes u) (list_all (λ q. (after side none).nodes q && k.nodes q) vs) h in
-          let rest = go vs parts.1 in
-          elim (or_cases (nat_eq v u) (has_number vs v) e) [ inl same ↦ ap k.nodes (eqb-true v u same) ∙ (and_parts ((after side none).nodes u) (k.nodes u) parts.0).1 | inr later ↦ rest later ]
+      key_known (λ u. (after side none).nodes u) (λ u. k.nodes u) v keys (and_parts (list_all (λ u. (after side none).nodes u && k.nodes u) keys) _ a.1).0
 
   -- a step leaves what is known in its group
   node_kept : (s : Step) (k : Known) (q : Places) → runs_step catalog y s k ≡ true → (v : ℕ) → k.nodes v ≡ true → (place_step s q).nodes v ≡ q.nodes v

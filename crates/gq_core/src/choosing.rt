@@ -129,7 +129,7 @@ fn grown(alloc: Global, first: &[u32], trails: &[TrailPattern<'_>]) -> Result<Ve
 }
 
 // The first numbers, so many.
-#[tactic(auto, using(crate::proofs::Ranges::range_more))]
+#[tactic(auto, using(gq_scopes::proofs::RangeLemmas::range_more))]
 fn numbers_below(alloc: Global, count: usize) -> Result<List<u32>, Memory>
     ensures { IfOk result (λ ns. ns ≡ range_with_len 0 count) }
 {

@@ -1,7 +1,7 @@
 -- A match of a query's core as a row: the program's walker owes there the rows that trails make.
 use Rattle.std.proofs.Common.{◌≡◌, ℕ, suc, ◌+◌, ◌<◌, ◌≤◌, Bool, true, false, ◌||◌, cond, nat_eq, nat_lt, Option, Some, None, List, [], ◌∷◌, ◌++◌, map, length, slice_get, ◌⊎◌, inl, inr, refl, sym, ap, ap₂, ◌∙◌, arith, true≢false}
 use Rattle.std.specs.List.{AllByRecursion, list_all}
-use Rattle.std.proofs.lemmas.Bool.{and_parts, cases_eq, eq-eqb, ne_eqb}
+use Rattle.std.proofs.lemmas.Bool.{and_parts, cases_eq, eq-eqb, ne_eqb, or_right}
 use Rattle.std.proofs.lemmas.List.Elements.{All-from_recursion}
 use Rattle.gq_base.specs.Plain.{Graph}
 use Rattle.gq_base.specs.declared.NodeId.{NodeId}
@@ -98,11 +98,7 @@ module _ (test : MapEntry → NamedExpr) (p : Pattern) where
   more_known true right k w one l r v = go (cases_eq v w.left)
     where
       go : (v ≡ w.left) ⊎ (v ≡ w.left → ⊥) → (nat_eq v w.right || k v) ≡ (nat_eq v w.left || (nat_eq v w.right || k v))
-      go (inl e) = known (nat_eq v w.right) (k v) (ap k e ∙ l) ∙ sym (ap (λ c. c || (nat_eq v w.right || k v)) (eq-eqb v w.left e))
-        where
-          known : (x y : Bool) → y ≡ true → (x || y) ≡ true
-          known true y e = refl
-          known false y e = e
+      go (inl e) = or_right (nat_eq v w.right) (k v) (ap k e ∙ l) ∙ sym (ap (λ c. c || (nat_eq v w.right || k v)) (eq-eqb v w.left e))
       go (inr other) = sym (ap (λ c. c || (nat_eq v w.right || k v)) (ne_eqb v w.left other))
   more_known false true k w one l r v = ap (λ c. nat_eq v w.left || c) (go (cases_eq v w.right))
     where

@@ -96,6 +96,17 @@ trailed_plain : (clauses : List Clause) → HaveNoTrail clauses → ((trailed_of
 unfolding trailed_of pattern_of
 trailed_plain clauses none = clauses_plain 0 clauses (without_trails no_pattern) none
 
+-- ---- what each path of a pattern keeps, all keep
+
+module _ (P : Pattern → Type 0) (path_keeps : (clause : ℕ) (path : Path) (p : Pattern) → P p → P (plain.with_path clause path p)) where
+  paths_keep : (clause : ℕ) (paths : List Path) (p : Pattern) → P p → P (plain.with_paths clause paths p)
+  paths_keep clause [] p h = h
+  paths_keep clause (path ∷ paths) p h = paths_keep clause paths (plain.with_path clause path p) (path_keeps clause path p h)
+
+  clauses_keep : (number : ℕ) (cs : List Clause) (p : Pattern) → P p → P (plain.with_clauses number cs p)
+  clauses_keep number [] p h = h
+  clauses_keep number (c ∷ cs) p h = clauses_keep (suc number) cs (plain.with_paths number c.paths p) (paths_keep number c.paths p h)
+
 -- ---- the names in patterns are of variables
 
 abbrev Below : ℕ → Variable → Type 0
@@ -132,18 +143,11 @@ hops_named clause at (x ∷ hs) p h =
     (node_named x.node (with_rel clause at w x.rel p)
     (each_append (λ (m : NamedVariable). Below (length p.names) m.variable) p.named (naming x.rel.name (rel (length p.rels))) h (one_named (length p.names) x.rel.name (rel (length p.rels)) tt)))
 
-paths_named : (clause : ℕ) (paths : List Path) (p : Pattern) → Named p → Named (plain.with_paths clause paths p)
-paths_named clause [] p h = h
-paths_named clause (path ∷ paths) p h =
-    paths_named clause paths (plain.with_path clause path p) (hops_named clause (variable_of p path.first) path.hops (with_node path.first p) (node_named path.first p h))
-
-clauses_named : (number : ℕ) (cs : List Clause) (p : Pattern) → Named p → Named (plain.with_clauses number cs p)
-clauses_named number [] p h = h
-clauses_named number (c ∷ cs) p h = clauses_named (suc number) cs (plain.with_paths number c.paths p) (paths_named number c.paths p h)
-
 pattern_named : (clauses : List Clause) → Named (pattern_of clauses)
 unfolding pattern_of
-pattern_named clauses = clauses_named 0 clauses no_pattern tt
+pattern_named clauses =
+    clauses_keep Named (λ clause path p h. hops_named clause (variable_of p path.first) path.hops (with_node path.first p) (node_named path.first p h))
+    0 clauses no_pattern tt
 
 -- ---- each variable has a name
 
@@ -164,18 +168,11 @@ hops_counted clause at (x ∷ hs) p h =
     let w : ℕ = variable_of p x.node in
     hops_counted clause w hs (with_node x.node (with_rel clause at w x.rel p)) (node_counted x.node (with_rel clause at w x.rel p) h)
 
-paths_counted : (clause : ℕ) (paths : List Path) (p : Pattern) → Counted p → Counted (plain.with_paths clause paths p)
-paths_counted clause [] p h = h
-paths_counted clause (path ∷ paths) p h =
-    paths_counted clause paths (plain.with_path clause path p) (hops_counted clause (variable_of p path.first) path.hops (with_node path.first p) (node_counted path.first p h))
-
-clauses_counted : (number : ℕ) (cs : List Clause) (p : Pattern) → Counted p → Counted (plain.with_clauses number cs p)
-clauses_counted number [] p h = h
-clauses_counted number (c ∷ cs) p h = clauses_counted (suc number) cs (plain.with_paths number c.paths p) (paths_counted number c.paths p h)
-
 names_counted : (clauses : List Clause) → Counted (pattern_of clauses)
 unfolding pattern_of
-names_counted clauses = clauses_counted 0 clauses no_pattern refl
+names_counted clauses =
+    clauses_keep Counted (λ clause path p h. hops_counted clause (variable_of p path.first) path.hops (with_node path.first p) (node_counted path.first p h))
+    0 clauses no_pattern refl
 
 -- ---- the order of first appearance changes nothing
 

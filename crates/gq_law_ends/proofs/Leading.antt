@@ -23,7 +23,7 @@ use Rattle.gq_law_trails.specs.Walks.{are_free, chained_by, end_of, is_of_type, 
 use Rattle.gq_law_ends.specs.Leading.{WalksLead, leads_to}
 use Rattle.gq_law_trails.proofs.Free.{free_is}
 use Rattle.gq_law_trails.proofs.Meant.{walks_are}
-use Rattle.gq_law_trails.proofs.Numbering.{rel_hits}
+use Rattle.gq_law_plans.proofs.Numbering.{rel_hits}
 use Rattle.gq_law_trails.proofs.Once.{walks_once}
 
 -- ---- tests of lists
@@ -49,7 +49,7 @@ any_flat_map : {X Y : Type 0} (p : Y → Bool) (f : X → List Y) (xs : List X) 
 any_flat_map p f [] = refl
 any_flat_map p f (x ∷ xs) = list_any-append p (f x) (flat_map f xs) ∙ ap (λ b. list_any p (f x) || b) (any_flat_map p f xs)
 
-any_filter : {X : Type 0} (p q : X → Bool) (xs : List X) → list_any p (filter q xs) ≡ list_any (λ x. q x && p x) xs
+pub any_filter : {X : Type 0} (p q : X → Bool) (xs : List X) → list_any p (filter q xs) ≡ list_any (λ x. q x && p x) xs
 any_filter p q [] = refl
 any_filter p q (x ∷ xs) = go (q x) (any_filter p q xs)
   where

@@ -28,13 +28,13 @@ same-is m n h =
     let row : m.row ≡ n.row = eqb-true m.row n.row both.1 in
     λ i. record { table = table i; row = row i }
 
-module _ (g : Graph) (y : Typed) (rows : ℕ → List Partial) (selected marked : NodeId → Bool) (i : ℕ) (b : Group) (gs : List Group) (k : Known) (a : Partial) (x from to : ℕ) (way : Direction) where
+module _ (g : Graph) (way : Direction) (selected marked : NodeId → Bool) where
   -- what is said of a relationship that leads to a selected node
-  abbrev Leads : RelId → Type 0
+  abbrev pub Leads : RelId → Type 0
   Leads r = (m : NodeId) → far g way r ≡ Some m → selected m ≡ true → (n : NodeId) → near g way r ≡ Some n → marked n ≡ true
 
   -- of the relationships at a node that is not marked none leads to a selected node
-  blind : (n : NodeId) → marked n ≡ false → (r : RelId) → Leads r → at_same (Some n) (near g way r) ≡ true → (m : NodeId) → far g way r ≡ Some m → selected m ≡ false
+  pub blind : (n : NodeId) → marked n ≡ false → (r : RelId) → Leads r → at_same (Some n) (near g way r) ≡ true → (m : NodeId) → far g way r ≡ Some m → selected m ≡ false
   blind n off r all at m is = by (near g way r) refl at (selected m) refl
     where
       by : (o : Option NodeId) → near g way r ≡ o → at_same (Some n) o ≡ true → (s : Bool) → selected m ≡ s → selected m ≡ false
@@ -46,8 +46,9 @@ module _ (g : Graph) (y : Typed) (rows : ℕ → List Partial) (selected marked 
           let there : marked n ≡ true = ap marked one ∙ on in
           cc (there, off)
 
+module _ (g : Graph) (y : Typed) (rows : ℕ → List Partial) (selected marked : NodeId → Bool) (i : ℕ) (b : Group) (gs : List Group) (k : Known) (a : Partial) (x from to : ℕ) (way : Direction) where
   module _ (n t : NodeId) (off : marked n ≡ false) (on : selected t ≡ true) (is : b.binds ≡ Close false x from to way) where
-    closed : (e : Partial) → look e.nodes to ≡ Some t → (rs : List RelId) → AllByRecursion Leads rs →
+    closed : (e : Partial) → look e.nodes to ≡ Some t → (rs : List RelId) → AllByRecursion (Leads g way selected marked) rs →
         AllEnd g y rows (i + 1) gs (flat_map (kept g y b) (map (λ r. with_rel x r e) (filter (λ r. at_same (Some n) (near g way r)) rs)))
     closed e there [] all = tt
     closed e there (r ∷ rs) all = by (at_same (Some n) (near g way r)) refl (closed e there rs all.1)
@@ -58,7 +59,7 @@ module _ (g : Graph) (y : Typed) (rows : ℕ → List Partial) (selected marked 
           where
             other : (c : Bool) → same_node t m ≡ c → same_node t m ≡ false
             other false z = z
-            other true z = (let off_m : selected m ≡ false = blind n off r all.0 h m f in let on_m : selected m ≡ true = ap selected (sym (same-is t m z)) ∙ on in cc (off_m, on_m))
+            other true z = (let off_m : selected m ≡ false = blind g way selected marked n off r all.0 h m f in let on_m : selected m ≡ true = ap selected (sym (same-is t m z)) ∙ on in cc (off_m, on_m))
 
         own-is : own g y b.binds (with_rel x r e) ≡ at_same (Some t) (far g way r)
         own-is = ap (λ s. own g y s (with_rel x r e)) is ∙ ap (λ c. reaches g y way (look e.nodes to) (cond c (Some r) (look e.rels x))) (eq-eqb x x refl) ∙ ap (λ o. at_same o (far g way r)) there

@@ -31,7 +31,7 @@ use Rattle.gq_law_plans.specs.Bindings.{bound, is_rel_at, extends}
 use Rattle.gq_law_plans.proofs.Counting.{met, known_by, extends_with_rel, node_look}
 use Rattle.gq_law_plans.proofs.Lookups.{found_bind}
 use Rattle.gq_law_plans.proofs.Owning.{Owns, owns_step}
-use Rattle.gq_law_plans.proofs.PlanCounts.{placed_all_step, total_same_on, count_step}
+use Rattle.gq_law_plans.proofs.PlanCounts.{placed_all_step, total_same_on, count_step, then_bit}
 use Rattle.gq_search.proofs.Cells.{flat_map-flat_map, flat_map-same}
 use Rattle.gq_law_groups.proofs.Single.{from_small}
 use Rattle.gq_law_groups.proofs.Swapped.{own, adds}
@@ -39,31 +39,27 @@ use Rattle.gq_law_groups.proofs.Swapped.{own, adds}
 -- ---- what is bound
 
 or_turn : (a b c : Bool) → (a || (b || c)) ≡ ((b || a) || c)
-or_turn true true c = refl
-or_turn true false c = refl
-or_turn false true c = refl
-or_turn false false c = refl
+or_turn a b c = grind arith
 
 or_none : (b : Bool) → (b || false) ≡ b
 or_none true = refl
 or_none false = refl
 
 -- what some step of a plan binds by itself
-bound_node : (v : ℕ) (p : Plan) (k : Known) → (after p k).nodes v ≡ (list_any (λ s. (own s).nodes v) (steps_of p) || k.nodes v)
+bound_in : (has : Known → Bool) (binds : Step → Bool) → ((s : Step) (k : Known) → has (after_step s k) ≡ (binds s || has k))
+    → (p : Plan) (k : Known) → has (after p k) ≡ (list_any binds (steps_of p) || has k)
 unfolding after
-bound_node v Done k = refl
-bound_node v (Then s p) k =
-    bound_node v p (after_step s k)
-    ∙ ap (λ (m : Known). list_any (λ t. (own t).nodes v) (steps_of p) || m.nodes v) (adds s k)
-    ∙ or_turn (list_any (λ t. (own t).nodes v) (steps_of p)) ((own s).nodes v) (k.nodes v)
+bound_in has binds more Done k = refl
+bound_in has binds more (Then s p) k =
+    bound_in has binds more p (after_step s k)
+    ∙ ap (λ b. list_any binds (steps_of p) || b) (more s k)
+    ∙ or_turn (list_any binds (steps_of p)) (binds s) (has k)
+
+bound_node : (v : ℕ) (p : Plan) (k : Known) → (after p k).nodes v ≡ (list_any (λ s. (own s).nodes v) (steps_of p) || k.nodes v)
+bound_node v p k = bound_in (λ m. m.nodes v) (λ s. (own s).nodes v) (λ s k. ap (λ (m : Known). m.nodes v) (adds s k)) p k
 
 bound_rel : (x : ℕ) (p : Plan) (k : Known) → (after p k).rels x ≡ (list_any (λ s. (own s).rels x) (steps_of p) || k.rels x)
-unfolding after
-bound_rel x Done k = refl
-bound_rel x (Then s p) k =
-    bound_rel x p (after_step s k)
-    ∙ ap (λ (m : Known). list_any (λ t. (own t).rels x) (steps_of p) || m.rels x) (adds s k)
-    ∙ or_turn (list_any (λ t. (own t).rels x) (steps_of p)) ((own s).rels x) (k.rels x)
+bound_rel x p k = bound_in (λ m. m.rels x) (λ s. (own s).rels x) (λ s k. ap (λ (m : Known). m.rels x) (adds s k)) p k
 
 -- steps bind the same in whatever order they stand
 pub bound_permuted : (p q : Plan) → IsPermutation (steps_of p) (steps_of q) → after p none ≡ after q none
@@ -218,14 +214,6 @@ module _ (g : Graph) (y : Typed) where
       (step g y s a) (owns_run s a h parts.0)
 
 -- ---- how often an assignment extends it
-
-then_bit : (h c s : Bool) → cond h (bit (c && s)) 0 ≡ bit (c && (s && h))
-then_bit true true true = refl
-then_bit true true false = refl
-then_bit true false s = refl
-then_bit false true true = refl
-then_bit false true false = refl
-then_bit false false s = refl
 
 few_hits : {X : Type 0} (p : X → Bool) (xs : List X) → length xs ≤ 1 → hits p xs ≡ bit (list_any p xs)
 few_hits p [] few = refl

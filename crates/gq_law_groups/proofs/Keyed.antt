@@ -226,10 +226,7 @@ module _ (g : Graph) (y : Typed) (rows : List Partial) where
         test r = at_same o (near g way r)
 
         swap : (b c : Bool) → cond c (bit b) 0 ≡ bit (b && c)
-        swap true true = refl
-        swap true false = refl
-        swap false true = refl
-        swap false false = refl
+        swap b c = grind arith
 
         in_table : (table : ℕ) → hits (λ r. is_rel_at (slice_get t.rels x) r) (filter test (rels_of g table)) ≤ 1
         in_table table =

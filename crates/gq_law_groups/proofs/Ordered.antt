@@ -215,6 +215,14 @@ keys_flat w flat (v ∷ keys) h = (
   keys_flat w flat keys (λ j e. h j (or_right (nat_eq j (w.nodes v)) (has_number (map w.nodes keys) j) e)),
 )
 
+-- a key of a join is known on both of its sides
+pub key_known : (side known : ℕ → Bool) (v : ℕ) (keys : List ℕ) → list_all (λ u. side u && known u) keys ≡ true → has_number keys v ≡ true → known v ≡ true
+key_known side known v [] h k = absurd (true≢false (sym k))
+key_known side known v (u ∷ keys) h k =
+    let parts = and_parts (side u && known u) (list_all (λ q. side q && known q) keys) h in
+    let rest = key_known side known v keys parts.1 in
+    elim (or_cases (nat_eq v u) (has_number keys v) k) [ inl same ↦ ap known (eqb-true v u same) ∙ (and_parts (side u) (known u) parts.0).1 | inr more ↦ rest more ]
+
 module _ (catalog : Tables) (y : Typed) (w : Places) (flat : ℕ → Bool) where
   abbrev AsksFlat : Step → Type 0
   AsksFlat s = (j : ℕ) → has_number (flat_by y w s) j ≡ true → flat j ≡ true
@@ -265,15 +273,8 @@ module _ (catalog : Tables) (y : Typed) (w : Places) (flat : ℕ → Bool) where
   new_at i (Close column x from to way) all b fit v e = inl e
   new_at i (Join side keys) all b fit v e = elim (or_cases ((after side none).nodes v) (all.nodes v) e) [ inl own ↦ go (has_number keys v) refl own | inr old ↦ inl old ]
     where
-      known_keys : (vs : List ℕ) → list_all (λ u. (after side none).nodes u && all.nodes u) vs ≡ true → has_number vs v ≡ true → all.nodes v ≡ true
-      known_keys [] h k = absurd (true≢false (sym k))
-      known_keys (u ∷ vs) h k =
-          let parts = and_parts ((after side none).nodes u && all.nodes u) (list_all (λ q. (after side none).nodes q && all.nodes q) vs) h in
-          let rest = known_keys vs parts.1 in
-          elim (or_cases (nat_eq v u) (has_number vs v) k) [ inl same ↦ ap all.nodes (eqb-true v u same) ∙ (and_parts ((after side none).nodes u) (all.nodes u) parts.0).1 | inr more ↦ rest more ]
-
       go : (c : Bool) → has_number keys v ≡ c → (after side none).nodes v ≡ true → (all.nodes v ≡ true) ⊎ (w.nodes v ≡ i)
-      go true k own = inl (known_keys keys (and_parts (list_all (λ u. (after side none).nodes u && all.nodes u) keys) _ (and_parts (fits catalog y side none) (is_joined y keys (after side none) all) fit).1).0 k)
+      go true k own = inl (key_known (λ u. (after side none).nodes u) (λ u. all.nodes u) v keys (and_parts (list_all (λ u. (after side none).nodes u && all.nodes u) keys) _ (and_parts (fits catalog y side none) (is_joined y keys (after side none) all) fit).1).0 k)
       go false k own = inr (b.0 v (and_from ((after side none).nodes v) (not (has_number keys v)) own (ap not k)))
   new_at i (Keep n) all b fit v e = inl e
   new_at i (Differ p) all b fit v e = inl e

@@ -1,25 +1,23 @@
 -- Where a list leads to no node of which its group leaves something, the group makes nothing: from a node that none of the list's relationships
 -- comes from that lead to such a node.
-use Rattle.std.proofs.Common.{◌≡◌, ◌⊎◌, ℕ, ◌+◌, Bool, true, false, cond, nat_eq, Option, Some, None, List, [], ◌∷◌, ◌++◌, filter, flat_map, slice_get, refl, sym, ap, ◌∙◌, subst, inl, inr}
+use Rattle.std.proofs.Common.{◌≡◌, ℕ, ◌+◌, Bool, true, false, cond, Option, Some, None, List, [], ◌∷◌, ◌++◌, filter, flat_map, refl, sym, ap, ◌∙◌, subst, inl, inr}
 use Rattle.std.specs.List.{AllByRecursion}
-use Rattle.std.proofs.lemmas.Bool.{and_parts, eqb-true, eq-eqb}
+use Rattle.std.proofs.lemmas.Bool.{eq-eqb}
 use Rattle.std.proofs.lemmas.List.Concat.{flat_map-append}
 use Rattle.gq_base.specs.Plain.{Graph}
 use Rattle.gq_base.specs.declared.NodeId.{NodeId}
 use Rattle.gq_base.specs.declared.RelId.{RelId}
 use Rattle.gq_base.specs.declared.direction.Direction.{Direction}
 use Rattle.gq_plan.specs.Allowed.{at_same}
-use Rattle.gq_plan.specs.Assignments.{same_node}
-use Rattle.gq_plan.specs.Conditions.{passes}
 use Rattle.gq_plan.specs.Covers.{after_step}
 use Rattle.gq_plan.specs.Known.{Known}
-use Rattle.gq_plan.specs.Meaning.{Partial, look, near, far, with_node, with_rel, arrive, rels_for, rels_from, holds, row, keep_if, mean, step}
-use Rattle.gq_plan.specs.Plans.{Step, Extend, Keep}
+use Rattle.gq_plan.specs.Meaning.{Partial, look, near, far, with_node, with_rel, arrive, rels_for, rels_from, keep_if, mean, step}
+use Rattle.gq_plan.specs.Plans.{Step, Extend}
 use Rattle.gq_plan.specs.declared.typed.Typed.{Typed}
 use Rattle.gq_law_groups.specs.Groups.{Group, follow, own, raw, kept}
 use Rattle.gq_law_groups.specs.Layout.{ArePlaced}
 use Rattle.gq_law_groups.proofs.Alike.{AreAlike, step_keeps}
-use Rattle.gq_law_groups.proofs.Closing.{Marks}
+use Rattle.gq_law_groups.proofs.Closing.{Leads, Marks, blind}
 use Rattle.gq_law_groups.proofs.Ending.{AllEnd, EndsAt}
 use Rattle.gq_law_groups.proofs.Following.{known_node, kept_keeps}
 use Rattle.gq_law_masks.specs.Alone.{Asks, Refuses}
@@ -27,38 +25,13 @@ use Rattle.gq_law_masks.specs.Nothing.{LeavesNothing, MakeNothing}
 
 -- ---- lists
 
--- two nodes that are one
-same-is : (m n : NodeId) → same_node m n ≡ true → m ≡ n
-same-is m n h =
-    let both = and_parts (nat_eq m.table n.table) (nat_eq m.row n.row) h in
-    let table : m.table ≡ n.table = eqb-true m.table n.table both.0 in
-    let row : m.row ≡ n.row = eqb-true m.row n.row both.1 in
-    λ i. record { table = table i; row = row i }
-
 module _ (g : Graph) (y : Typed) (rows : ℕ → List Partial) (selected marked : NodeId → Bool) (i : ℕ) (b : Group) (gs : List Group) (k : Known) (a : Partial) (x from to : ℕ) (way : Direction) where
   end-joined : (us vs : List Partial) → AllEnd g y rows (i + 1) gs us → AllEnd g y rows (i + 1) gs vs → AllEnd g y rows (i + 1) gs (us ++ vs)
   end-joined [] vs m n = n
   end-joined (u ∷ us) vs m n = (m.0, end-joined us vs m.1 n)
 
-  -- what is said of a relationship that leads to a selected node
-  abbrev Leads : RelId → Type 0
-  Leads r = (m : NodeId) → far g way r ≡ Some m → selected m ≡ true → (n : NodeId) → near g way r ≡ Some n → marked n ≡ true
-
-  -- of the relationships at a node that is not marked none leads to a selected node
-  blind : (n : NodeId) → marked n ≡ false → (r : RelId) → Leads r → at_same (Some n) (near g way r) ≡ true → (m : NodeId) → far g way r ≡ Some m → selected m ≡ false
-  blind n off r all at m is = by (near g way r) refl at (selected m) refl
-    where
-      by : (o : Option NodeId) → near g way r ≡ o → at_same (Some n) o ≡ true → (s : Bool) → selected m ≡ s → selected m ≡ false
-      by None e h s f = cc
-      by (Some n') e h false f = f
-      by (Some n') e h true f =
-          let one : n ≡ n' = same-is n n' h in
-          let on : marked n' ≡ true = all m is f n' e in
-          let there : marked n ≡ true = ap marked one ∙ on in
-          cc (there, off)
-
   module _ (n : NodeId) (off : marked n ≡ false) (ends : (e : Partial) (m : NodeId) → look e.nodes to ≡ Some m → selected m ≡ false → AllEnd g y rows (i + 1) gs (kept g y b e)) where
-    followed : (e : Partial) (rs : List RelId) → AllByRecursion Leads rs →
+    followed : (e : Partial) (rs : List RelId) → AllByRecursion (Leads g way selected marked) rs →
         AllEnd g y rows (i + 1) gs (flat_map (kept g y b) (flat_map (λ r. arrive to (far g way r) (with_rel x r e)) (filter (λ r. at_same (Some n) (near g way r)) rs)))
     followed e [] all = tt
     followed e (r ∷ rs) all = by (at_same (Some n) (near g way r)) refl (followed e rs all.1)
@@ -67,7 +40,7 @@ module _ (g : Graph) (y : Typed) (rows : ℕ → List Partial) (selected marked 
         arrived None f h = tt
         arrived (Some m) f h =
             end-joined (kept g y b (with_node to m (with_rel x r e))) []
-            (ends (with_node to m (with_rel x r e)) m (ap (λ c. cond c (Some m) (look e.nodes to)) (eq-eqb to to refl)) (blind n off r all.0 h m f)) tt
+            (ends (with_node to m (with_rel x r e)) m (ap (λ c. cond c (Some m) (look e.nodes to)) (eq-eqb to to refl)) (blind g way selected marked n off r all.0 h m f)) tt
 
         by : (c : Bool) → at_same (Some n) (near g way r) ≡ c → AllEnd g y rows (i + 1) gs (flat_map (kept g y b) (flat_map (λ r. arrive to (far g way r) (with_rel x r e)) (filter (λ r. at_same (Some n) (near g way r)) rs))) →
             AllEnd g y rows (i + 1) gs (flat_map (kept g y b) (flat_map (λ r. arrive to (far g way r) (with_rel x r e)) (cond c (r ∷ filter (λ r. at_same (Some n) (near g way r)) rs) (filter (λ r. at_same (Some n) (near g way r)) rs))))

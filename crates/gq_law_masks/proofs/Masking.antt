@@ -1,5 +1,5 @@
 -- From a row that is not marked a list leads to no chosen row, where the rows are marked in whose lists, the other way round, chosen rows stand.
-use Rattle.std.proofs.Common.{◌≡◌, ℕ, zero, suc, ◌+◌, ◌<◌, ◌≤◌, Bool, true, false, not, ◌||◌, cond, eqb, nat_eq, Option, Some, None, List, [], ◌∷◌, map, length, get_or, slice_get, refl, sym, ap, ap₂, ◌∙◌, subst, arith}
+use Rattle.std.proofs.Common.{◌≡◌, ℕ, zero, suc, ◌+◌, ◌<◌, ◌≤◌, Bool, true, false, not, ◌||◌, cond, eqb, nat_eq, Some, List, [], ◌∷◌, map, length, get_or, slice_get, refl, sym, ap, ap₂, ◌∙◌, subst, arith}
 use Rattle.std.specs.Prelude.{All}
 use Rattle.std.specs.List.{AllByRecursion, range_with_len}
 use Rattle.std.proofs.lemmas.Bool.{eq-eqb, eqb-true}
@@ -10,21 +10,20 @@ use Rattle.gq_base.specs.Plain.{Graph, rels_at}
 use Rattle.gq_base.specs.Valid.{is_valid}
 use Rattle.gq_base.specs.declared.NodeId.{NodeId}
 use Rattle.gq_base.specs.declared.PlainRel.{PlainRel}
-use Rattle.gq_base.specs.declared.RelId.{RelId}
 use Rattle.gq_base.specs.declared.RelTable.{RelTable}
 use Rattle.gq_base.specs.declared.direction.Direction.{Direction}
 use Rattle.gq_base.specs.declared.direction.Direction.TheVariants.{Forward, Backward}
 use Rattle.gq_plan.specs.Assignments.{source, target, source_in, target_in, rels_of}
 use Rattle.gq_plan.specs.Covers.{after_step}
 use Rattle.gq_plan.specs.Known.{Known}
-use Rattle.gq_plan.specs.Meaning.{Partial, look, near, far, rels_for}
+use Rattle.gq_plan.specs.Meaning.{Partial, look, near, far}
 use Rattle.gq_plan.specs.Plans.{Extend}
 use Rattle.gq_plan.specs.Rows.{node_table}
 use Rattle.gq_plan.specs.declared.typed.Typed.{Typed}
 use Rattle.gq_plan.specs.declared.typed.TypedRel.{TypedRel}
 use Rattle.gq_store.proofs.Validity.{ends_below, length-ends}
 use Rattle.gq_store.specs.Neighbours.{near_end, near_ends, near_rows, neighbours}
-use Rattle.gq_law_groups.specs.Groups.{Group, kept}
+use Rattle.gq_law_groups.specs.Groups.{Group}
 use Rattle.gq_law_groups.specs.Layout.{ArePlaced}
 use Rattle.gq_law_groups.proofs.Closing.{Marks}
 use Rattle.gq_law_groups.proofs.Ending.{EndsAt}
@@ -85,12 +84,12 @@ module _ (g : Graph) (t : ℕ) (k : RelTable) (table_is : slice_get g.catalog.re
       let same : record { table = k.from; row = p.source } ≡ n = cc found in
       (ends-at Forward (rels_at g t) number p there ∙ ap (λ (m : NodeId). m.row) same, ap (λ (m : NodeId). m.table) same)
 
-get-some : {X : Type 0} (xs : List X) (i : ℕ) → i < length xs → (x : X) × (slice_get xs i ≡ Some x)
+pub get-some : {X : Type 0} (xs : List X) (i : ℕ) → i < length xs → (x : X) × (slice_get xs i ≡ Some x)
 get-some [] i low = absurd (omega arith)
 get-some (x ∷ xs) zero low = (x, refl)
 get-some (x ∷ xs) (suc i) low = get-some xs i (omega arith)
 
-all-range : {X : Type 0} (P : X → Type 0) (f : ℕ → X) (a n : ℕ) → ((i : ℕ) → i < a + n → P (f i)) → AllByRecursion P (map f (range_with_len a n))
+pub all-range : {X : Type 0} (P : X → Type 0) (f : ℕ → X) (a n : ℕ) → ((i : ℕ) → i < a + n → P (f i)) → AllByRecursion P (map f (range_with_len a n))
 all-range P f a zero h = tt
 all-range P f a (suc n) h = (h a (omega arith), all-range P f (a + 1) n (λ i low. h i (omega (arith, low))))
 

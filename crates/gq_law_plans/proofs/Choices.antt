@@ -1,6 +1,6 @@
 -- All choices of items for some variables: each choice binds these variables, and what stands once for each of them stands
 -- once among the choices.
-use Rattle.std.proofs.Common.{◌≡◌, ℕ, zero, suc, ◌+◌, ◌<◌, ◌≤◌, Bool, true, false, ◌||◌, cond, nat_eq, List, [], ◌∷◌, map, filter, ◌⊎◌, inl, inr, refl, sym, ap, ap₂, ◌∙◌, arith, true≢false}
+use Rattle.std.proofs.Common.{◌≡◌, ℕ, zero, suc, ◌+◌, ◌<◌, ◌≤◌, Bool, true, false, ◌||◌, cond, nat_eq, List, [], ◌∷◌, map, filter, ◌⊎◌, inl, inr, ◌≢◌, refl, sym, ap, ap₂, ◌∙◌, arith, true≢false}
 use Rattle.std.specs.List.{AllByRecursion, range_with_len, list_all}
 use Rattle.std.proofs.lemmas.Bool.{eq-eqb, ne_eqb, cases_eq, cases_lt, or_right}
 use Rattle.gq_plan.specs.Parts.{bindings}
@@ -14,20 +14,21 @@ use Rattle.gq_law_plans.proofs.Lookups.{Found, found_bind}
 
 -- ---- numbers that pass a test
 
-pass_low : (p : ℕ → Bool) (a n w : ℕ) → w < a → among (filter p (range_with_len a n)) w ≡ false
-pass_low p a zero w h = refl
-pass_low p a (suc n) w h = go (p a) (pass_low p (a + 1) n w (omega arith))
+-- a number outside a range is not among what it keeps
+pass_out : (p : ℕ → Bool) (a n w : ℕ) → (w < a) ⊎ (a + n ≤ w) → among (filter p (range_with_len a n)) w ≡ false
+pass_out p a zero w h = refl
+pass_out p a (suc n) w h = go (p a) (pass_out p (a + 1) n w (later h))
   where
-    go : (b : Bool) → among (filter p (range_with_len (a + 1) n)) w ≡ false → among (cond b (a ∷ filter p (range_with_len (a + 1) n)) (filter p (range_with_len (a + 1) n))) w ≡ false
-    go true more = ap₂ ◌||◌ (ne_eqb w a (λ e. omega arith)) more
-    go false more = more
+    later : (w < a) ⊎ (a + suc n ≤ w) → (w < a + 1) ⊎ (a + 1 + n ≤ w)
+    later (inl low) = inl (omega arith)
+    later (inr high) = inr (omega arith)
 
-pass_high : (p : ℕ → Bool) (a n w : ℕ) → a + n ≤ w → among (filter p (range_with_len a n)) w ≡ false
-pass_high p a zero w h = refl
-pass_high p a (suc n) w h = go (p a) (pass_high p (a + 1) n w (omega arith))
-  where
+    other : (w < a) ⊎ (a + suc n ≤ w) → w ≢ a
+    other (inl low) e = omega arith
+    other (inr high) e = omega arith
+
     go : (b : Bool) → among (filter p (range_with_len (a + 1) n)) w ≡ false → among (cond b (a ∷ filter p (range_with_len (a + 1) n)) (filter p (range_with_len (a + 1) n))) w ≡ false
-    go true more = ap₂ ◌||◌ (ne_eqb w a (λ e. omega arith)) more
+    go true more = ap₂ ◌||◌ (ne_eqb w a (other h)) more
     go false more = more
 
 pub pass_in : (p : ℕ → Bool) (a n w : ℕ) → a ≤ w → w < a + n → p w ≡ true → among (filter p (range_with_len a n)) w ≡ true
@@ -51,14 +52,14 @@ Once (v ∷ vs) = (among vs v ≡ false) × Once vs
 
 pub pass_once : (p : ℕ → Bool) (a n : ℕ) → Once (filter p (range_with_len a n))
 pass_once p a zero = tt
-pass_once p a (suc n) = go (p a) (pass_low p (a + 1) n a (omega arith)) (pass_once p (a + 1) n)
+pass_once p a (suc n) = go (p a) (pass_out p (a + 1) n a (inl (omega arith))) (pass_once p (a + 1) n)
   where
     go : (b : Bool) → among (filter p (range_with_len (a + 1) n)) a ≡ false → Once (filter p (range_with_len (a + 1) n)) → Once (cond b (a ∷ filter p (range_with_len (a + 1) n)) (filter p (range_with_len (a + 1) n)))
     go true new more = (new, more)
     go false new more = more
 
 pub pass_below : (p : ℕ → Bool) (n w : ℕ) → among (filter p (range_with_len 0 n)) w ≡ true → w < n
-pass_below p n w h = elim (cases_lt w n) [ inl low ↦ low | inr high ↦ absurd (true≢false (sym h ∙ pass_high p 0 n w (omega arith))) ]
+pass_below p n w h = elim (cases_lt w n) [ inl low ↦ low | inr high ↦ absurd (true≢false (sym h ∙ pass_out p 0 n w (inr (omega arith)))) ]
 
 -- ---- choices
 

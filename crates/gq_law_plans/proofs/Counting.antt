@@ -25,10 +25,7 @@ use Rattle.gq_law_plans.specs.Bindings.{extends, is_rel_at, nodes_in, rels_in, b
 use Rattle.gq_law_plans.proofs.Lookups.{bound_append, look_is}
 
 pub and_swap : (a b c : Bool) → (a && (b && c)) ≡ (b && (a && c))
-and_swap true true c = refl
-and_swap true false c = refl
-and_swap false true c = refl
-and_swap false false c = refl
+and_swap a b c = grind arith
 
 pub cond_both : (c h : Bool) → cond c (bit h) 0 ≡ bit (c && h)
 cond_both true h = refl
@@ -45,31 +42,27 @@ abbrev pub passes_in : Graph → ℕ → (RelId → Bool) → Option RelId → B
 passes_in g table test None = false
 passes_in g table test (Some q) = (nat_eq q.table table && is_rel g q) && test q
 
+-- so many rows of a table have a number and stand in the table
+rows_hit : (size : ℕ → ℕ) (own row table : ℕ) → hits (λ r. nat_eq own table && nat_eq row r) (range_with_len 0 (size table)) ≡ bit (nat_eq own table && nat_lt row (size own))
+rows_hit size own row table = go (nat_eq own table) refl
+  where
+    go : (b : Bool) → nat_eq own table ≡ b → hits (λ r. b && nat_eq row r) (range_with_len 0 (size table)) ≡ bit (b && nat_lt row (size own))
+    go true e =
+        hits_range row 0 (size table) (omega arith)
+        ∙ ap (λ k. bit (nat_lt row k)) (zero-add _) ∙ ap (λ k. bit (nat_lt row (size k))) (sym (eqb-true _ _ e))
+    go false e = total_none _ (λ r. refl) (range_with_len 0 (size table))
+
 -- a node stands once among the nodes of its table
 pub hits_nodes_of : (g : Graph) (table : ℕ) (o : Option NodeId) → hits (λ n. at_same o (Some n)) (nodes_of g table) ≡ bit (is_in g table o)
 unfolding nodes_of
 hits_nodes_of g table None = total_none _ (λ n. refl) (nodes_of g table)
 hits_nodes_of g table (Some m) =
-    total_map _ (λ r. record { table = table; row = r }) (range_with_len 0 (length (rows_at g table)))
-    ∙ go (nat_eq m.table table) refl
-  where
-    go : (b : Bool) → nat_eq m.table table ≡ b → hits (λ r. b && nat_eq m.row r) (range_with_len 0 (length (rows_at g table))) ≡ bit (b && is_node g m)
-    go true e =
-        hits_range m.row 0 (length (rows_at g table)) (omega arith)
-        ∙ ap (λ k. bit (nat_lt m.row k)) (zero-add _) ∙ ap (λ k. bit (nat_lt m.row (length (rows_at g k)))) (sym (eqb-true _ _ e))
-    go false e = total_none _ (λ r. refl) (range_with_len 0 (length (rows_at g table)))
+    total_map _ (λ r. record { table = table; row = r }) (range_with_len 0 (length (rows_at g table))) ∙ rows_hit (λ k. length (rows_at g k)) m.table m.row table
 
 pub hits_rels_of : (g : Graph) (table : ℕ) (q : RelId) → hits (same_rel q) (rels_of g table) ≡ bit (nat_eq q.table table && is_rel g q)
 unfolding rels_of
 hits_rels_of g table q =
-    total_map _ (λ k. record { table = table; row = k }) (range_with_len 0 (length (rels_at g table)))
-    ∙ go (nat_eq q.table table) refl
-  where
-    go : (b : Bool) → nat_eq q.table table ≡ b → hits (λ k. b && nat_eq q.row k) (range_with_len 0 (length (rels_at g table))) ≡ bit (b && is_rel g q)
-    go true e =
-        hits_range q.row 0 (length (rels_at g table)) (omega arith)
-        ∙ ap (λ k. bit (nat_lt q.row k)) (zero-add _) ∙ ap (λ k. bit (nat_lt q.row (length (rels_at g k)))) (sym (eqb-true _ _ e))
-    go false e = total_none _ (λ r. refl) (range_with_len 0 (length (rels_at g table)))
+    total_map _ (λ k. record { table = table; row = k }) (range_with_len 0 (length (rels_at g table))) ∙ rows_hit (λ k. length (rels_at g k)) q.table q.row table
 
 pub hits_rels_at : (g : Graph) (table : ℕ) (test : RelId → Bool) (o : Option RelId) → hits (λ r. is_rel_at o r && test r) (rels_of g table) ≡ bit (passes_in g table test o)
 hits_rels_at g table test None = total_none _ (λ r. refl) (rels_of g table)

@@ -47,34 +47,13 @@ range_beside p (x ∷ xs) (y ∷ ys) e =
 -- ---- truth tables
 
 rel_bits : (e r l n a b : Bool) → ((((e && r) && l) && n) && (a && b)) ≡ (((e && (l && n)) && a) && (r && b))
-rel_bits false r l n a b = refl
-rel_bits true true true true a b = refl
-rel_bits true true true false a b = refl
-rel_bits true true false n a b = refl
-rel_bits true false true true true b = refl
-rel_bits true false true true false b = refl
-rel_bits true false true false a b = refl
-rel_bits true false false n a b = refl
+rel_bits e r l n a b = grind arith
 
 five_bits : (a b c d e : Bool) → ((((a && b) && c) && d) && e) ≡ ((a && (b && e)) && (c && d))
-five_bits false b c d e = refl
-five_bits true false c d e = refl
-five_bits true true true true true = refl
-five_bits true true true true false = refl
-five_bits true true true false true = refl
-five_bits true true true false false = refl
-five_bits true true false d true = refl
-five_bits true true false d false = refl
+five_bits a b c d e = grind arith
 
 real_bits : (a n b r s : Bool) → (((a && n) && (b && r)) && s) ≡ ((n && r) && ((a && b) && s))
-real_bits true true true true s = refl
-real_bits true true true false s = refl
-real_bits true true false true s = refl
-real_bits true true false false s = refl
-real_bits true false b r s = refl
-real_bits false true b true s = refl
-real_bits false true b false s = refl
-real_bits false false b r s = refl
+real_bits a n b r s = grind arith
 
 -- ---- what is demanded
 

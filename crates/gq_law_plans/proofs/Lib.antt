@@ -7,7 +7,7 @@ pub mod Fields
 pub mod Filled
 pub mod Lookups
 pub mod Made
-mod Numbering
+pub mod Numbering
 pub mod Owning
 pub mod PlanCounts
 pub mod Reordered

@@ -1,5 +1,5 @@
 -- What a plan that covers an alternative makes is of the graph, lies in the alternative and makes its tests true.
-use Rattle.std.proofs.Common.{◌≡◌, ℕ, ◌<◌, true, ◌&&◌, List, map, filter, length, IsTrue, arith}
+use Rattle.std.proofs.Common.{◌≡◌, ℕ, ◌<◌, true, ◌&&◌, List, map, filter, length, IsTrue, arith, flat_map}
 use Rattle.std.specs.List.{AllByRecursion, list_all, range_with_len}
 use Rattle.std.proofs.lemmas.Bool.{lt-ltb, and_parts}
 use Rattle.std.proofs.lemmas.List.Elements.{All-from_recursion}
@@ -30,21 +30,21 @@ record IsOf (g : Graph) (n m : ℕ) (t : Assignment) : Type 0 where
   node_count : length t.nodes ≡ n
   rel_count : length t.rels ≡ m
 
+-- what is made of each row of each table is real where each of them is
+rows_real : {X : Type 0} (P : X → Type 0) (size : ℕ → ℕ) (make : ℕ → ℕ → X) → ((k r : ℕ) → r < size k → P (make k r)) → (tables : ℕ)
+    → AllByRecursion P (flat_map (λ k. map (make k) (range_with_len 0 (size k))) (range_with_len 0 tables))
+rows_real P size make real tables =
+    each_flat_map (λ k. Unit {0}) P (λ k. map (make k) (range_with_len 0 (size k)))
+    (λ k _. each_map (λ r. r < size k) P (make k) (real k) (range_with_len 0 (size k)) (each_below 0 (size k) (size k) (omega arith)))
+    (range_with_len 0 tables) (each_of _ (λ k. tt) (range_with_len 0 tables))
+
 nodes_real : (g : Graph) → AllByRecursion (IsNode g) (all_nodes g)
 unfolding all_nodes nodes_of
-nodes_real g =
-    each_flat_map (λ k. Unit {0}) (IsNode g) (nodes_of g)
-    (λ k _. each_map (λ r. r < length (rows_at g k)) (IsNode g) (λ r. record { table = k; row = r }) (λ r low. lt-ltb r (length (rows_at g k)) low)
-    (range_with_len 0 (length (rows_at g k))) (each_below 0 (length (rows_at g k)) (length (rows_at g k)) (omega arith)))
-    (range_with_len 0 (length g.nodes)) (each_of _ (λ k. tt) (range_with_len 0 (length g.nodes)))
+nodes_real g = rows_real (IsNode g) (λ k. length (rows_at g k)) (λ k r. record { table = k; row = r }) (λ k r low. lt-ltb r (length (rows_at g k)) low) (length g.nodes)
 
 rels_real : (g : Graph) → AllByRecursion (IsRel g) (all_rels g)
 unfolding all_rels rels_of
-rels_real g =
-    each_flat_map (λ k. Unit {0}) (IsRel g) (rels_of g)
-    (λ k _. each_map (λ r. r < length (rels_at g k)) (IsRel g) (λ r. record { table = k; row = r }) (λ r low. lt-ltb r (length (rels_at g k)) low)
-    (range_with_len 0 (length (rels_at g k))) (each_below 0 (length (rels_at g k)) (length (rels_at g k)) (omega arith)))
-    (range_with_len 0 (length g.rels)) (each_of _ (λ k. tt) (range_with_len 0 (length g.rels)))
+rels_real g = rows_real (IsRel g) (λ k. length (rels_at g k)) (λ k r. record { table = k; row = r }) (λ k r low. lt-ltb r (length (rels_at g k)) low) (length g.rels)
 
 each_real : (n m : ℕ) (g : Graph) → AllByRecursion (IsOf g n m) (assignments n m g)
 unfolding assignments

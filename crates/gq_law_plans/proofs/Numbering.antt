@@ -3,7 +3,7 @@ use Rattle.std.proofs.Common.{◌≡◌, ℕ, ◌<◌, Bool, true, false, ◌&&�
 use Rattle.std.specs.List.{range_with_len, list_all}
 use Rattle.std.proofs.lemmas.Bool.{ltb-true, lt-ltb}
 use Rattle.std.proofs.lemmas.Option.{slice_get_within}
-use Rattle.gq_base.specs.Plain.{Graph, rels_at, rows_at}
+use Rattle.gq_base.specs.Plain.{Graph, all_of}
 use Rattle.gq_base.specs.declared.NodeId.{NodeId}
 use Rattle.gq_base.specs.declared.RelId.{RelId}
 use Rattle.gq_plan.specs.Assignments.{Assignment, tuples, assignments, nodes_of, all_nodes, rels_of, all_rels, same_node, same_rel, is_node, is_rel}
@@ -14,7 +14,7 @@ use Rattle.gq_plan.proofs.Products.{same_assignment}
 use Rattle.gq_law_plans.proofs.Counting.{cond_both, hits_nodes_of, hits_rels_of}
 
 -- a list stands once among the lists of so many items where each of its items stands once, and else not at all
-list_hits : {X : Type 0} (same : X → X → Bool) (stands : X → Bool) (xs : List X) → ((x : X) → hits (same x) xs ≡ bit (stands x)) → (l : List X)
+pub list_hits : {X : Type 0} (same : X → X → Bool) (stands : X → Bool) (xs : List X) → ((x : X) → hits (same x) xs ≡ bit (stands x)) → (l : List X)
     → hits (pointwise same l) (tuples (length l) xs) ≡ bit (list_all stands l)
 unfolding tuples
 list_hits same stands xs once [] = refl
@@ -38,45 +38,34 @@ only_if true true h = refl
 only_if false true h = absurd (true≢false (sym (h refl)))
 only_if a false h = refl
 
-nodes_low : (g : Graph) (n : NodeId) → is_node g n ≡ true → nat_lt n.table (length g.nodes) ≡ true
-nodes_low g n h = go (slice_get g.nodes n.table) refl
+-- what stands in a row of a table that is there has a table that is there
+table_low : {X : Type 0} (tables : List (List X)) (table row : ℕ) → nat_lt row (length (all_of (slice_get tables table))) ≡ true → nat_lt table (length tables) ≡ true
+table_low tables table row h = go (slice_get tables table) refl
   where
-    go : (o : Option _) → slice_get g.nodes n.table ≡ o → nat_lt n.table (length g.nodes) ≡ true
-    go (Some rows) e = lt-ltb n.table (length g.nodes) (slice_get_within g.nodes n.table rows e)
+    go : (o : Option _) → slice_get tables table ≡ o → nat_lt table (length tables) ≡ true
+    go (Some rows) e = lt-ltb table (length tables) (slice_get_within tables table rows e)
     go None e =
-        let none : rows_at g n.table ≡ [] = rw e refl in
-        let empty : length (rows_at g n.table) ≡ 0 = ap length none in
-        let low : n.row < length (rows_at g n.table) = ltb-true _ _ h in
+        let none : length (all_of (slice_get tables table)) ≡ 0 = rw e refl in
+        let low : row < length (all_of (slice_get tables table)) = ltb-true _ _ h in
         absurd (omega arith)
 
-rels_low : (g : Graph) (r : RelId) → is_rel g r ≡ true → nat_lt r.table (length g.rels) ≡ true
-rels_low g r h = go (slice_get g.rels r.table) refl
-  where
-    go : (o : Option _) → slice_get g.rels r.table ≡ o → nat_lt r.table (length g.rels) ≡ true
-    go (Some rows) e = lt-ltb r.table (length g.rels) (slice_get_within g.rels r.table rows e)
-    go None e =
-        let none : rels_at g r.table ≡ [] = rw e refl in
-        let empty : length (rels_at g r.table) ≡ 0 = ap length none in
-        let low : r.row < length (rels_at g r.table) = ltb-true _ _ h in
-        absurd (omega arith)
-
-node_hits : (g : Graph) (n : NodeId) → hits (same_node n) (all_nodes g) ≡ bit (is_node g n)
+pub node_hits : (g : Graph) (n : NodeId) → hits (same_node n) (all_nodes g) ≡ bit (is_node g n)
 unfolding all_nodes
 node_hits g n =
     total_flat_map (λ m. bit (same_node n m)) (nodes_of g) (range_with_len 0 (length g.nodes))
     ∙ total_same _ _ (λ k. hits_nodes_of g k (Some n)) (range_with_len 0 (length g.nodes))
     ∙ hits_and_const (λ k. nat_eq n.table k) (is_node g n) (range_with_len 0 (length g.nodes))
     ∙ ap (λ c. cond (is_node g n) c 0) (in_range n.table (length g.nodes))
-    ∙ only_if (nat_lt n.table (length g.nodes)) (is_node g n) (nodes_low g n)
+    ∙ only_if (nat_lt n.table (length g.nodes)) (is_node g n) (table_low g.nodes n.table n.row)
 
-rel_hits : (g : Graph) (r : RelId) → hits (same_rel r) (all_rels g) ≡ bit (is_rel g r)
+pub rel_hits : (g : Graph) (r : RelId) → hits (same_rel r) (all_rels g) ≡ bit (is_rel g r)
 unfolding all_rels
 rel_hits g r =
     total_flat_map (λ m. bit (same_rel r m)) (rels_of g) (range_with_len 0 (length g.rels))
     ∙ total_same _ _ (λ k. hits_rels_of g k r) (range_with_len 0 (length g.rels))
     ∙ hits_and_const (λ k. nat_eq r.table k) (is_rel g r) (range_with_len 0 (length g.rels))
     ∙ ap (λ c. cond (is_rel g r) c 0) (in_range r.table (length g.rels))
-    ∙ only_if (nat_lt r.table (length g.rels)) (is_rel g r) (rels_low g r)
+    ∙ only_if (nat_lt r.table (length g.rels)) (is_rel g r) (table_low g.rels r.table r.row)
 
 -- the nodes and the relationships of an assignment are of the graph
 abbrev pub is_real : Graph → Assignment → Bool

@@ -1,5 +1,5 @@
 -- A plan completes a partial assignment to each assignment that extends it and meets the plan's demands once, and to no other.
-use Rattle.std.proofs.Common.{◌≡◌, ℕ, ◌+◌, Bool, true, false, ◌&&◌, cond, Option, Some, None, List, [], ◌∷◌, ◌++◌, filter, IsTrue, refl, sym, ap, ap₂, ◌∙◌, subst, true≢false}
+use Rattle.std.proofs.Common.{◌≡◌, ℕ, ◌+◌, Bool, true, false, ◌&&◌, cond, Option, Some, None, List, [], ◌∷◌, ◌++◌, filter, IsTrue, refl, sym, ap, ap₂, ◌∙◌, subst, true≢false, arith}
 use Rattle.std.specs.List.{AllByRecursion, list_all}
 use Rattle.std.proofs.lemmas.Bool.{eq-eqb, and_parts, and_from}
 use Rattle.std.proofs.lemmas.List.Folds.{list_all-append}
@@ -45,13 +45,8 @@ pub total_same_on : {X : Type 0} (P : X → Type 0) (f h : X → ℕ) → ((x : 
 total_same_on P f h same [] all = refl
 total_same_on P f h same (x ∷ xs) all = ap₂ ◌+◌ (same x all.0) (total_same_on P f h same xs all.1)
 
-then_bit : (h c s : Bool) → cond h (bit (c && s)) 0 ≡ bit (c && (s && h))
-then_bit true true true = refl
-then_bit true true false = refl
-then_bit true false s = refl
-then_bit false true true = refl
-then_bit false true false = refl
-then_bit false false s = refl
+pub then_bit : (h c s : Bool) → cond h (bit (c && s)) 0 ≡ bit (c && (s && h))
+then_bit h c s = grind arith
 
 done_bit : (c : Bool) → bit c + 0 ≡ bit (c && true)
 done_bit true = refl

@@ -86,20 +86,10 @@ picked p q xs =
 arranged : (t r g d c j l : Bool) → (r && g) ≡ (j && l) → ((t && r) && (g && (d && c))) ≡ ((((t && j) && c) && d) && l)
 arranged false r g d c j l e = refl
 arranged true false g d c false l e = refl
-arranged true false g d c true false e = last c d
-  where
-    last : (c d : Bool) → false ≡ ((c && d) && false)
-    last true true = refl
-    last true false = refl
-    last false d = refl
+arranged true false g d c true false e = grind arith
 arranged true false g d c true true e = absurd (true≢false (sym e))
 arranged true true false d c false l e = refl
-arranged true true false d c true false e = last c d
-  where
-    last : (c d : Bool) → false ≡ ((c && d) && false)
-    last true true = refl
-    last true false = refl
-    last false d = refl
+arranged true true false d c true false e = grind arith
 arranged true true false d c true true e = absurd (true≢false (sym e))
 arranged true true true d c false l e = absurd (true≢false e)
 arranged true true true d c true false e = absurd (true≢false e)

@@ -9,7 +9,7 @@ use Rattle.gq_alternatives.specs.Matches.{has_type, is_match}
 use Rattle.gq_law_plans.proofs.Counting.{cond_both}
 use Rattle.gq_law_plans.proofs.PlanCounts.{total_same_on}
 use Rattle.gq_law_plans.proofs.Wholes.{rel_self}
-use Rattle.gq_law_trails.proofs.Numbering.{assignment_hits, list_hits, rel_hits}
+use Rattle.gq_law_plans.proofs.Numbering.{assignment_hits, list_hits, rel_hits}
 use Rattle.gq_law_trails.specs.Real.{is_real}
 use Rattle.gq_law_trails.specs.Walks.{chained}
 use Rattle.gq_plan.specs.Counts.{bit, hits}
@@ -152,11 +152,7 @@ module _ (g : Graph) (q : Trailed) where
 
   where_so : (a b c m : Bool) → (m ≡ true → b ≡ c) → bit ((a && b) && m) ≡ bit ((a && c) && m)
   where_so a b c true h = ap (λ d. bit ((a && d) && true)) (h refl)
-  where_so true true true false h = refl
-  where_so true true false false h = refl
-  where_so true false true false h = refl
-  where_so true false false false h = refl
-  where_so false b c false h = refl
+  where_so a b c false h = grind arith
 
   -- so a choice stands once among the matches where it is of the graph and a match
   pub reach_hits : AreShort q.trails → (r : Reach) → IsChosen q r

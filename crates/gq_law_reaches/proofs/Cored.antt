@@ -12,7 +12,7 @@ use Rattle.gq_plan.proofs.Permuted.{range_any}
 use Rattle.std.specs.Cmp.Lexicographic.{pointwise}
 use Rattle.gq_plan.proofs.Products.{IsSized, each_sized, same_assignment, same_assignment_is}
 use Rattle.gq_law_plans.specs.Bindings.{extends, is_rel_at, bound}
-use Rattle.gq_law_trails.proofs.Numbering.{assignment_hits}
+use Rattle.gq_law_plans.proofs.Numbering.{assignment_hits}
 use Rattle.gq_law_trails.specs.Real.{is_real}
 use Rattle.gq_law_plans.proofs.PlanCounts.{total_same_on}
 use Rattle.gq_law_trails.specs.Met.{AreOrdered}

@@ -1,5 +1,5 @@
 -- The matches of a query's core, continued by its trails, are the matches of the query.
-use Rattle.std.proofs.Common.{◌≡◌, ℕ, ◌<◌, Bool, true, false, ◌&&◌, nat_lt, length, refl, sym, ap, ◌∙◌, subst}
+use Rattle.std.proofs.Common.{◌≡◌, ℕ, ◌<◌, Bool, true, false, ◌&&◌, nat_lt, length, refl, sym, ap, ◌∙◌, subst, arith}
 use Rattle.std.specs.List.{AllByRecursion, list_all, list_any}
 use Rattle.std.proofs.lemmas.Bool.{and_parts}
 use Rattle.gq_plan.specs.Counts.{bit}
@@ -19,12 +19,7 @@ use Rattle.gq_law_reaches.proofs.Reals.{real_whole}
 
 where_so : (a b l m : Bool) → (m ≡ true → a ≡ b) → bit ((a && l) && m) ≡ bit ((b && l) && m)
 where_so a b l true h = ap (λ c. bit ((c && l) && true)) (h refl)
-where_so true true l false h = refl
-where_so true false true false h = refl
-where_so true false false false h = refl
-where_so false true true false h = refl
-where_so false true false false h = refl
-where_so false false l false h = refl
+where_so a b l false h = grind arith
 
 pub cores_to_reaches : CoresContinuedToReaches
 cores_to_reaches g test k q t ls valid tests cored nodes rels lists =

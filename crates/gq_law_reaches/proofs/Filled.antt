@@ -64,10 +64,7 @@ known_or_bound [] k v = none (k v)
 known_or_bound (p ∷ ps) k v = known_or_bound ps (knows_more p.both p.to k) v ∙ go p.both
   where
     turn : (a b c : Bool) → ((a || b) || c) ≡ (b || (a || c))
-    turn true true c = refl
-    turn true false c = refl
-    turn false true c = refl
-    turn false false c = refl
+    turn a b c = grind arith
 
     go : (both : Bool) → (knows_more both p.to k v || list_any (binds v) ps) ≡ (k v || ((not both && nat_eq p.to v) || list_any (binds v) ps))
     go true = refl

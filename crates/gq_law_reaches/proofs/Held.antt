@@ -34,10 +34,7 @@ all_reverse f [] = refl
 all_reverse f (x ∷ xs) = ap (list_all f) (reverse-append (x ∷ []) xs) ∙ all_append f (reverse xs) (x ∷ []) ∙ ap (λ b. b && (f x && true)) (all_reverse f xs) ∙ turn (list_all f xs) (f x)
   where
     turn : (a b : Bool) → (a && (b && true)) ≡ (b && a)
-    turn true true = refl
-    turn true false = refl
-    turn false true = refl
-    turn false false = refl
+    turn a b = grind arith
 
 turned_all_pass : (f : RelId → Bool) (way : Direction) (l : List RelId) → list_all f (turned way l) ≡ list_all f l
 turned_all_pass f Forward l = refl
@@ -88,14 +85,7 @@ module _ (g : Graph) (test : MapEntry → NamedExpr) (p : Pattern) (t : Assignme
       ∙ ends_are left right w.forward w.left w.right l)
 
   regrouped : (a b c d e f : Bool) → (((a && b) && c) && ((d && e) && f)) ≡ (((a && d) && (b && e)) && (c && f))
-  regrouped false b c d e f = refl
-  regrouped true false c false e f = refl
-  regrouped true false c true e f = refl
-  regrouped true true false false e f = refl
-  regrouped true true false true false f = refl
-  regrouped true true false true true f = refl
-  regrouped true true true false e f = refl
-  regrouped true true true true e f = refl
+  regrouped a b c d e f = grind arith
 
   all_asked : (known : List ℕ) (ts : List TrailPattern) (ls : List (List RelId)) → length ts ≡ length ls
       → trails_asked g (parts_from test p known ts) t (turned_all (parts_from test p known ts) ls)

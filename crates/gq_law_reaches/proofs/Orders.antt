@@ -1,7 +1,7 @@
 -- The trails of a query are walked from what is known, and bind each variable outside the core.
 use Rattle.std.proofs.Common.{◌≡◌, ℕ, zero, suc, ◌+◌, ◌<◌, ◌≤◌, Bool, true, false, ◌||◌, cond, nat_eq, nat_lt, List, [], ◌∷◌, filter, length, refl, sym, ap, ap₂, ◌∙◌, arith, inl, inr, ◌⊎◌, true≢false}
 use Rattle.std.specs.List.{AllByRecursion, list_any, range_with_len}
-use Rattle.std.proofs.lemmas.Bool.{cases_eq, eq-eqb, ne_eqb}
+use Rattle.std.proofs.lemmas.Bool.{cases_eq, eq-eqb, ne_eqb, or_right}
 use Rattle.gq_plan.specs.Soundness.{has_number}
 use Rattle.gq_scopes.specs.Patterns.{Pattern, MapEntry}
 use Rattle.gq_law_trails.specs.Met.{AreOrdered, EndBound, knows_more}
@@ -126,11 +126,7 @@ module _ (test : MapEntry → NamedExpr) (p : Pattern) where
   knows_on true false k w one l r v = left_known (cases_eq v w.left)
     where
       left_known : (v ≡ w.left) ⊎ (v ≡ w.left → ⊥) → (nat_eq v w.right || k v) ≡ (nat_eq v w.left || (nat_eq v w.right || k v))
-      left_known (inl a) = known (nat_eq v w.right) (k v) (ap k a ∙ l) ∙ sym (ap (λ c. c || (nat_eq v w.right || k v)) (eq-eqb v w.left a))
-        where
-          known : (x y : Bool) → y ≡ true → (x || y) ≡ true
-          known true y e = refl
-          known false y e = e
+      left_known (inl a) = or_right (nat_eq v w.right) (k v) (ap k a ∙ l) ∙ sym (ap (λ c. c || (nat_eq v w.right || k v)) (eq-eqb v w.left a))
       left_known (inr a) = sym (ap (λ c. c || (nat_eq v w.right || k v)) (ne_eqb v w.left a))
   knows_on false true k w one l r v = right_known (cases_eq v w.right)
     where

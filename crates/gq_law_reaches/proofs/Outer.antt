@@ -25,10 +25,7 @@ module _ {X : Type 0} where
       assoc false b d = refl
 
       turn : (a b d : Bool) → (a && (b && d)) ≡ (b && (a && d))
-      turn true true d = refl
-      turn true false d = refl
-      turn false true d = refl
-      turn false false d = refl
+      turn a b d = grind arith
 
       go : (b : Bool) → list_all f xs ≡ (list_all f (filter c xs) && list_all f (filter (λ x. not (c x)) xs))
           → (f x && list_all f xs) ≡ (list_all f (cond b (x ∷ filter c xs) (filter c xs)) && list_all f (cond (not b) (x ∷ filter (λ x. not (c x)) xs) (filter (λ x. not (c x)) xs)))

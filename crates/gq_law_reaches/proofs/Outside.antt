@@ -17,16 +17,9 @@ use Rattle.gq_law_reaches.specs.Core.{entries_at, is_core_entry, outer_match}
 use Rattle.gq_law_reaches.specs.Turned.{AreBinding, AreTests, EndsAreOuter, IsBinding, binds, ends_fit}
 use Rattle.gq_law_reaches.proofs.Ends.{end_fits_as_matched}
 use Rattle.gq_plan.specs.declared.NamedExpr.{NamedExpr}
+use Rattle.gq_law_trails.proofs.Apart.{all_each, each_all}
 
 module _ {X : Type 0} where
-  pass_each : (f : X → Bool) (xs : List X) → list_all f xs ≡ true → AllByRecursion (λ x. f x ≡ true) xs
-  pass_each f [] h = tt
-  pass_each f (x ∷ xs) h = let parts = and_parts (f x) (list_all f xs) h in (parts.0, pass_each f xs parts.1)
-
-  each_pass : (f : X → Bool) (xs : List X) → AllByRecursion (λ x. f x ≡ true) xs → list_all f xs ≡ true
-  each_pass f [] h = refl
-  each_pass f (x ∷ xs) h = and_from (f x) (list_all f xs) h.0 (each_pass f xs h.1)
-
   pass_kept : (f c : X → Bool) (xs : List X) → list_all f (filter c xs) ≡ true → AllByRecursion (λ x. c x ≡ true → f x ≡ true) xs
   pass_kept f c [] h = tt
   pass_kept f c (x ∷ xs) h = (here (c x) refl h, pass_kept f c xs (rest (c x) h))
@@ -107,7 +100,7 @@ module _ (g : Graph) (test : MapEntry → NamedExpr) (k : ℕ) (p : Pattern) (t 
       let q = found (λ (q : TrailPart). (IsBinding test k p q × (q.to < length t.nodes)) × (end_fits g q (slice_get t.nodes q.to) ≡ true)) (binds v) parts
       (each_both (λ (q : TrailPart). IsBinding test k p q × (q.to < length t.nodes)) (λ (q : TrailPart). end_fits g q (slice_get t.nodes q.to) ≡ true) parts
       (each_both (IsBinding test k p) (λ (q : TrailPart). q.to < length t.nodes) parts are.binding are.ends)
-      (pass_each (λ (q : TrailPart). end_fits g q (slice_get t.nodes q.to)) parts h)) (are.all v out low) in
+      (all_each (λ (q : TrailPart). end_fits g q (slice_get t.nodes q.to)) parts h)) (are.all v out low) in
       let test = and_parts (not q.0.both) (nat_eq q.0.to v) q.1.1 in
       ap asked_at (sym (eqb-true q.0.to v test.1)) ∙ sym (fits_so q.0 q.1.0.0.0 q.1.0.0.1 (not_true q.0.both test.0)) ∙ q.1.0.1
 
@@ -160,7 +153,7 @@ module _ (g : Graph) (test : MapEntry → NamedExpr) (k : ℕ) (p : Pattern) (t 
   one_fits h q is low false free = fits_so q is low free ∙ asked_so h q.to (is free).0
 
   all_fit : outer_match g k p t ≡ true → ends_fit g t parts ≡ true
-  all_fit h = each_pass (λ (q : TrailPart). end_fits g q (slice_get t.nodes q.to)) parts
+  all_fit h = each_all (λ (q : TrailPart). end_fits g q (slice_get t.nodes q.to)) parts
       (each_then (λ (q : TrailPart). IsBinding test k p q × (q.to < length t.nodes)) (λ (q : TrailPart). end_fits g q (slice_get t.nodes q.to) ≡ true)
       (λ q is. one_fits h q is.0 is.1 q.both refl) parts
       (each_both (IsBinding test k p) (λ (q : TrailPart). q.to < length t.nodes) parts are.binding are.ends))

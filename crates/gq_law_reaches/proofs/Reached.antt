@@ -1,5 +1,5 @@
 -- Trails continue the core's matches to the matches of the query.
-use Rattle.std.proofs.Common.{◌≡◌, Bool, true, false, ◌&&◌, List, ◌++◌, refl, sym, ap, ◌∙◌}
+use Rattle.std.proofs.Common.{◌≡◌, Bool, ◌&&◌, List, ◌++◌, sym, ap, ◌∙◌, arith}
 use Rattle.std.specs.List.{list_all}
 use Rattle.gq_base.specs.Lists.{all_distinct}
 use Rattle.gq_alternatives.specs.Matches.{is_match}
@@ -15,14 +15,7 @@ use Rattle.gq_law_reaches.proofs.Continuing.{core_as_trails}
 use Rattle.gq_law_reaches.proofs.Outside.{ends_are_outer}
 
 regrouped : (r m l h e d : Bool) → ((r && m) && (((l && h) && e) && d)) ≡ ((r && l) && ((m && e) && (h && d)))
-regrouped false m l h e d = refl
-regrouped true false false h e d = refl
-regrouped true false true h e d = refl
-regrouped true true false h e d = refl
-regrouped true true true false false d = refl
-regrouped true true true false true d = refl
-regrouped true true true true false d = refl
-regrouped true true true true true d = refl
+regrouped r m l h e d = grind arith
 
 pub core_as_reaches : CoreContinuedAsReaches
 core_as_reaches g test k q known t ls low nodes rels lists ordered tests binding inside =

@@ -1,5 +1,5 @@
 -- Turned lists have the same relationships.
-use Rattle.std.proofs.Common.{◌≡◌, ℕ, Bool, true, false, not, ◌&&◌, ◌||◌, cond, nat_eq, List, [], ◌∷◌, ◌++◌, reverse, refl, sym, ap, ap₂, ◌∙◌}
+use Rattle.std.proofs.Common.{◌≡◌, ℕ, Bool, true, false, not, ◌&&◌, ◌||◌, cond, nat_eq, List, [], ◌∷◌, ◌++◌, reverse, refl, sym, ap, ap₂, ◌∙◌, arith}
 use Rattle.std.specs.List.{list_all, list_any}
 use Rattle.std.proofs.lemmas.List.{reverse-append}
 use Rattle.std.proofs.lemmas.List.Folds.{list_any-append}
@@ -10,6 +10,7 @@ use Rattle.gq_base.specs.declared.direction.Direction.TheVariants.{Forward, Back
 use Rattle.gq_plan.specs.Assignments.{same_rel}
 use Rattle.gq_scopes.specs.Patterns.{Pattern, MapEntry}
 use Rattle.gq_plan.specs.declared.TrailPart.{TrailPart}
+use Rattle.gq_law_trails.proofs.Apart.{swap_bits}
 use Rattle.gq_law_trails.proofs.Free.{free_distinct, free_is, unused, unused_more}
 use Rattle.gq_law_trails.specs.Apart.{lists_for}
 use Rattle.gq_law_trails.specs.Met.{turned}
@@ -20,20 +21,7 @@ use Rattle.gq_law_reaches.specs.Turned.{TurnedDiffer, turned_all}
 use Rattle.gq_plan.specs.declared.NamedExpr.{NamedExpr}
 
 or_swap : (a b : Bool) → (a || b) ≡ (b || a)
-or_swap true true = refl
-or_swap true false = refl
-or_swap false true = refl
-or_swap false false = refl
-
-swap_bits : (a u b : Bool) → (a && (u && b)) ≡ (b && (u && a))
-swap_bits true true true = refl
-swap_bits true true false = refl
-swap_bits true false true = refl
-swap_bits true false false = refl
-swap_bits false true true = refl
-swap_bits false true false = refl
-swap_bits false false true = refl
-swap_bits false false false = refl
+or_swap a b = grind arith
 
 none_unused : (b : List RelId) → unused [] b ≡ true
 none_unused [] = refl

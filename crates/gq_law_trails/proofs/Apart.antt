@@ -1,5 +1,5 @@
 -- Trails that are free of what is used before them are all different, clause by clause.
-use Rattle.std.proofs.Common.{◌≡◌, ℕ, Bool, true, false, not, ◌&&◌, ◌||◌, cond, nat_eq, List, [], ◌∷◌, ◌++◌, append_assoc, append-nil, refl, sym, ap, ap₂, ◌∙◌}
+use Rattle.std.proofs.Common.{◌≡◌, ℕ, Bool, true, false, not, ◌&&◌, ◌||◌, cond, nat_eq, List, [], ◌∷◌, ◌++◌, append_assoc, append-nil, refl, sym, ap, ap₂, ◌∙◌, arith}
 use Rattle.std.specs.List.{AllByRecursion, list_all, list_any}
 use Rattle.std.proofs.lemmas.Bool.{and_parts, and_from, eq-eqb, eqb-true}
 use Rattle.std.proofs.lemmas.List.Folds.{list_any-append}
@@ -24,15 +24,8 @@ unused_swap [] b = none b
     none (r ∷ b) = none b
 unused_swap (u ∷ a) b = unused_more u a b ∙ ap (λ c. not (list_any (same_rel u) b) && c) (unused_swap a b)
 
-swap_bits : (a u b : Bool) → (a && (u && b)) ≡ (b && (u && a))
-swap_bits true true true = refl
-swap_bits true true false = refl
-swap_bits true false true = refl
-swap_bits true false false = refl
-swap_bits false true true = refl
-swap_bits false true false = refl
-swap_bits false false true = refl
-swap_bits false false false = refl
+pub swap_bits : (a u b : Bool) → (a && (u && b)) ≡ (b && (u && a))
+swap_bits a u b = grind arith
 
 distinct_is : (a b : List RelId) → all_distinct same_rel (a ++ b) ≡ (all_distinct same_rel a && (unused a b && all_distinct same_rel b))
 distinct_is a b = free_distinct a b ∙ ap (λ c. all_distinct same_rel a && c) (free_is a b)
@@ -43,10 +36,7 @@ distinct_swap a b =
     ∙ ap (λ c. all_distinct same_rel b && (c && all_distinct same_rel a)) (unused_swap a b) ∙ sym (distinct_is b a)
 
 or_swap : (a b : Bool) → (a || b) ≡ (b || a)
-or_swap true true = refl
-or_swap true false = refl
-or_swap false true = refl
-or_swap false false = refl
+or_swap a b = grind arith
 
 unused_turn : (a b l : List RelId) → unused (a ++ b) l ≡ unused (b ++ a) l
 unused_turn a b [] = refl
@@ -135,11 +125,11 @@ module _ (patterns : ℕ → List RelId) where
       (each_then (λ (q : TrailPart). frees_in q.clause (p ∷ ps) ws (l ∷ ls) ≡ true) (λ (q : TrailPart). frees_in q.clause ps ((p.clause, l) ∷ ws) ls ≡ true)
       (λ q k. (and_parts (not (nat_eq p.clause q.clause) || are_free (used_in patterns ws q.clause) l) (frees_in q.clause ps ((p.clause, l) ∷ ws) ls) k).1) ps h.1))
 
-all_each : (test : TrailPart → Bool) (ps : List TrailPart) → list_all test ps ≡ true → AllByRecursion (λ p. test p ≡ true) ps
+pub all_each : {X : Type 0} (test : X → Bool) (ps : List X) → list_all test ps ≡ true → AllByRecursion (λ p. test p ≡ true) ps
 all_each test [] h = tt
 all_each test (p ∷ ps) h = let parts = and_parts (test p) (list_all test ps) h in (parts.0, all_each test ps parts.1)
 
-each_all : (test : TrailPart → Bool) (ps : List TrailPart) → AllByRecursion (λ p. test p ≡ true) ps → list_all test ps ≡ true
+pub each_all : {X : Type 0} (test : X → Bool) (ps : List X) → AllByRecursion (λ p. test p ≡ true) ps → list_all test ps ≡ true
 each_all test [] h = refl
 each_all test (p ∷ ps) h = and_from (test p) (list_all test ps) h.0 (each_all test ps h.1)
 

@@ -1,5 +1,5 @@
 -- Trails are met exactly where each is as it is meant, and all relationships of a clause are different.
-use Rattle.std.proofs.Common.{◌≡◌, ℕ, Bool, true, false, ◌&&◌, List, [], ◌∷◌, refl, ap, ap₂, ◌∙◌}
+use Rattle.std.proofs.Common.{◌≡◌, ℕ, Bool, false, ◌&&◌, List, [], ◌∷◌, refl, ap, ap₂, ◌∙◌, arith}
 use Rattle.gq_base.specs.Plain.{Graph}
 use Rattle.gq_base.specs.declared.RelId.{RelId}
 use Rattle.gq_plan.specs.Assignments.{Assignment}
@@ -13,18 +13,10 @@ use Rattle.gq_law_trails.proofs.Apart.{frees_distinct}
 use Rattle.gq_law_trails.proofs.AsMeant.{trail_meant}
 
 free_last : (r x f e : Bool) → ((r && (x && f)) && e) ≡ (((r && x) && e) && f)
-free_last false x f e = refl
-free_last true false f e = refl
-free_last true true true true = refl
-free_last true true true false = refl
-free_last true true false true = refl
-free_last true true false false = refl
+free_last r x f e = grind arith
 
 pairs : (a b c d : Bool) → ((a && b) && (c && d)) ≡ ((a && c) && (b && d))
-pairs true true c d = refl
-pairs true false true d = refl
-pairs true false false d = refl
-pairs false b c d = refl
+pairs a b c d = grind arith
 
 and_none : (b : Bool) → false ≡ (false && b)
 and_none b = refl

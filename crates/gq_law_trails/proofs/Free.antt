@@ -1,5 +1,5 @@
 -- A list that is free of relationships which are all different is, with them, a list of different relationships.
-use Rattle.std.proofs.Common.{◌≡◌, Bool, true, false, not, ◌&&◌, ◌||◌, List, [], ◌∷◌, refl, sym, ap, ap₂, ◌∙◌}
+use Rattle.std.proofs.Common.{◌≡◌, Bool, true, false, not, ◌&&◌, ◌||◌, List, [], ◌∷◌, refl, sym, ap, ap₂, ◌∙◌, arith}
 use Rattle.std.specs.List.{list_all, list_any}
 use Rattle.std.proofs.lemmas.List.Folds.{list_any-append}
 use Rattle.gq_base.specs.Lists.{all_distinct}
@@ -17,10 +17,7 @@ nor true b = refl
 nor false b = refl
 
 and_four : (a b c d : Bool) → ((a && b) && (c && d)) ≡ ((a && c) && (b && d))
-and_four true true c d = refl
-and_four true false true d = refl
-and_four true false false d = refl
-and_four false b c d = refl
+and_four a b c d = grind arith
 
 -- none of a list is one of these
 abbrev pub unused : List RelId → List RelId → Bool
@@ -34,10 +31,7 @@ unused_more u used (r ∷ l) =
     ∙ ap (λ b. b && (not (list_any (same_rel r) used) && unused used l)) (sym (nor (same_rel u r) (list_any (same_rel u) l)))
 
 regrouped : (n a b d : Bool) → (n && ((a && b) && d)) ≡ ((n && b) && (a && d))
-regrouped false a b d = refl
-regrouped true true b d = refl
-regrouped true false true d = refl
-regrouped true false false d = refl
+regrouped n a b d = grind arith
 
 pub free_is : (used l : List RelId) → are_free used l ≡ (unused used l && all_distinct same_rel l)
 free_is used [] = refl

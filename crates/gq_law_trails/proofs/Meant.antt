@@ -104,10 +104,7 @@ chained_last g at end (q ∷ l) r =
     ∙ sym (and_assoc (at_same at (source g q)) (chained g (target g q) l (source g r)) (at_same (target g r) end))
 
 and_turn : (a b : Bool) → (a && b) ≡ (b && a)
-and_turn true true = refl
-and_turn true false = refl
-and_turn false true = refl
-and_turn false false = refl
+and_turn a b = grind arith
 
 pub chains_turn : ChainsTurn
 chains_turn g at end [] = same_swap at end

@@ -1,5 +1,5 @@
 -- Each walk is listed once.
-use Rattle.std.proofs.Common.{◌≡◌, zero, suc, ◌+◌, Bool, true, false, ◌&&◌, cond, nat_eq, List, [], ◌∷◌, map, filter, refl, sym, ap, ap₂, ◌∙◌, zero-add, add-zero}
+use Rattle.std.proofs.Common.{◌≡◌, zero, suc, ◌+◌, Bool, true, false, ◌&&◌, cond, nat_eq, List, [], ◌∷◌, map, filter, refl, sym, ap, ap₂, ◌∙◌, zero-add, add-zero, arith}
 use Rattle.std.proofs.Math.Bool.{and_assoc}
 use Rattle.gq_base.specs.declared.RelId.{RelId}
 use Rattle.gq_plan.specs.Assignments.{all_rels, is_rel, same_rel}
@@ -8,7 +8,7 @@ use Rattle.gq_plan.specs.Counts.{bit, hits, total}
 use Rattle.gq_plan.proofs.Counts.{total_append, total_map, total_flat_map, total_filter, total_none, total_same, hits_at, hits_const_and, cond_and}
 use Rattle.std.specs.Cmp.Lexicographic.{pointwise}
 use Rattle.gq_plan.proofs.Products.{same_rel_is}
-use Rattle.gq_law_trails.proofs.Numbering.{rel_hits}
+use Rattle.gq_law_plans.proofs.Numbering.{rel_hits}
 use Rattle.gq_law_trails.specs.Walks.{is_walk, may_follow, pred, walks}
 use Rattle.gq_law_trails.specs.Listed.{WalksListedOnce}
 
@@ -22,10 +22,7 @@ no_stop true r l = refl
 no_stop false r l = refl
 
 walk_bit : (s d w : Bool) → cond s (cond d (bit w) 0) 0 ≡ bit (d && (s && w))
-walk_bit true true w = refl
-walk_bit true false w = refl
-walk_bit false true w = refl
-walk_bit false false w = refl
+walk_bit s d w = grind arith
 
 pub walks_once : WalksListedOnce
 unfolding walks

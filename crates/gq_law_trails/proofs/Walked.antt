@@ -1,5 +1,5 @@
 -- Trails that are walked one after another give each assignment with its lists once.
-use Rattle.std.proofs.Common.{◌≡◌, ℕ, ◌+◌, Bool, true, false, ◌&&◌, ◌||◌, cond, nat_eq, Option, Some, None, List, [], ◌∷◌, map, flat_map, slice_get, refl, sym, ap, ◌∙◌, add-zero}
+use Rattle.std.proofs.Common.{◌≡◌, ℕ, ◌+◌, Bool, true, false, ◌&&◌, ◌||◌, cond, nat_eq, Option, Some, None, List, [], ◌∷◌, map, flat_map, slice_get, refl, sym, ap, ◌∙◌, add-zero, arith}
 use Rattle.gq_base.specs.Plain.{Graph}
 use Rattle.gq_base.specs.declared.NodeId.{NodeId}
 use Rattle.gq_base.specs.declared.RelId.{RelId}
@@ -41,20 +41,10 @@ cond_off false m = refl
 
 -- extends E, at the end S, what the end is asked F, and the rest M
 both_bits : (e s f m : Bool) → cond s (bit (e && m)) 0 ≡ bit ((e && (s && (true || f))) && m)
-both_bits true true f m = refl
-both_bits true false f m = refl
-both_bits false true f m = refl
-both_bits false false f m = refl
+both_bits e s f m = grind arith
 
 new_bits : (e s f m : Bool) → cond f (bit ((s && e) && m)) 0 ≡ bit ((e && (s && (false || f))) && m)
-new_bits true true true m = refl
-new_bits true true false m = refl
-new_bits true false true m = refl
-new_bits true false false m = refl
-new_bits false true true m = refl
-new_bits false true false m = refl
-new_bits false false true m = refl
-new_bits false false false m = refl
+new_bits e s f m = grind arith
 
 none_bits : (e m : Bool) → 0 ≡ bit ((e && false) && m)
 none_bits true m = refl
@@ -62,13 +52,7 @@ none_bits false m = refl
 
 -- extends E, a walk W, its end D, and the rest M
 walk_bits : (e w d m : Bool) → cond ((e && d) && m) (bit w) 0 ≡ bit (e && ((w && d) && m))
-walk_bits false w d m = refl
-walk_bits true true true true = refl
-walk_bits true true true false = refl
-walk_bits true true false m = refl
-walk_bits true false true true = refl
-walk_bits true false true false = refl
-walk_bits true false false m = refl
+walk_bits e w d m = grind arith
 
 module _ (g : Graph) (patterns : ℕ → List RelId) (t : Assignment) where
   -- ---- the other end

@@ -1,5 +1,5 @@
-pub mod ConditionReads
 pub mod NamedPaths
+pub mod ReadsFit
 pub mod ReadsThere
 pub mod RenameLemmas
 pub mod Resolved

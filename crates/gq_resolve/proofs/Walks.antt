@@ -1,6 +1,6 @@
 -- What a walk over an expression gives, with the expression opened by one level: so whether two expressions are the same,
 -- and whether one is made of columns.
-use Rattle.std.proofs.Common.{◌≡◌, ◌∙◌, ap, ap₂, refl, sym, subst, Bool, true, false, ◌&&◌, ◌||◌}
+use Rattle.std.proofs.Common.{◌≡◌, ◌∙◌, ap, ap₂, refl, sym, subst, Bool, true, false, ◌&&◌, ◌||◌, arith}
 use Rattle.std.proofs.Common.{ℕ, zero, suc, ◌+◌, ◌-◌, ◌^◌, ◌<◌, ◌≤◌, max, min, arith, Option, Some, None}
 use Rattle.std.proofs.Common.{List, [], ◌∷◌, length, map, get_or, drop}
 use Rattle.std.specs.Prelude.{slice_get}
@@ -223,13 +223,11 @@ module _ (ps qs : List (Option Expr)) where
   pub same_end : (n : ℕ) → length ps ≤ n → length qs ≤ n → from n ≡ true
   same_end n h k = ap₂ (pointwise same_place) (drop_all n ps h) (drop_all n qs k)
 
-and_true : (a : Bool) → (a && true) ≡ a
-and_true true = refl
-and_true false = refl
+pub and_true : (a : Bool) → (a && true) ≡ a
+and_true a = grind arith
 
-and_false : (a : Bool) → (a && false) ≡ false
-and_false true = refl
-and_false false = refl
+pub and_false : (a : Bool) → (a && false) ≡ false
+and_false a = grind arith
 
 uneven : (ps qs : List (Option Expr)) → (length qs ≡ length ps → ⊥)
     → pointwise same_place ps qs ≡ false

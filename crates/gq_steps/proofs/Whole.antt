@@ -26,6 +26,7 @@ use Rattle.gq_steps.specs.Tries.{tries}
 use Rattle.gq_steps.specs.declared.group_steps.GroupSteps.{GroupSteps}
 use Rattle.gq_steps.proofs.Followed.{rel, far_is}
 use Rattle.gq_steps.proofs.Stepping.{Follows, follows}
+use Rattle.gq_join.proofs.Sorting.{all_filter}
 
 -- a list of lists of one
 abbrev pub one_if : Bool → Partial → List Partial
@@ -39,14 +40,6 @@ at_map : {X Y : Type 0} (f : X → Y) (xs : List X) (j : ℕ) (d : Y) (e : X) �
 at_map f [] j d e low = absurd (omega arith)
 at_map f (x ∷ xs) zero d e low = refl
 at_map f (x ∷ xs) (suc j) d e low = at_map f xs j d e (omega arith)
-
-filter_all : (P : RelId → Type 0) (p : RelId → Bool) (rs : List RelId) → AllByRecursion P rs → AllByRecursion P (filter p rs)
-filter_all P p [] h = tt
-filter_all P p (r ∷ rs) h = go (p r) (filter_all P p rs h.1)
-  where
-    go : (b : Bool) → AllByRecursion P (filter p rs) → AllByRecursion P (cond b (r ∷ filter p rs) (filter p rs))
-    go true all = (h.0, all)
-    go false all = all
 
 range_all : (P : RelId → Type 0) (f : ℕ → RelId) (a n : ℕ) → ((i : ℕ) → i < n → P (f (a + i))) → AllByRecursion P (map f (range_with_len a n))
 range_all P f a zero h = tt
@@ -86,7 +79,7 @@ module _ (c : Run) (run : IsRun c) where
   raw_tries built (Extend false x from to way) k a makes fit =
       let f : Follows c x from to way = follows c run false x from to way (and_parts (holds (goes g.catalog false from to way) (slice_get y.rels x)) _ fit).0 in
       let all : AllByRecursion (Leads g way) (rels_of g f.found.table) = all_lead g f.found.table f.table way f.table_at in
-      arrivals g to x way a (rels_from g y x way (look a.nodes from)) (filter_all (Leads g way) (λ r. at_same (look a.nodes from) (near g way r)) _ (rw f.rel_is all))
+      arrivals g to x way a (rels_from g y x way (look a.nodes from)) (all_filter (Leads g way) (λ r. at_same (look a.nodes from) (near g way r)) _ (rw f.rel_is all))
   raw_tries built (Close true x from to way) k a makes fit = absurd (true≢false (sym makes))
   raw_tries built (Close false x from to way) k a makes fit = go (rels_from g y x way (look a.nodes from))
     where
