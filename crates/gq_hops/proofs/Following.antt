@@ -78,26 +78,26 @@ module _ (test : RelId → Option NodeId) (t : ℕ) (n : NodeId) (table : ℕ) (
       go (inr other) more = rw (here, eq-eqb n.table table lies, ne_eqb n.row e other, ne_eqb e n.row (λ h. other (sym h))) more
 
 module _ (g : Graph) (t : ℕ) (k : RelTable) (table_is : slice_get g.catalog.rels t ≡ Some k) where
-  rel_is : (number : ℕ) → number < length (rels_at g t) → (r : PlainRel) × (slice_get (rels_at g t) number ≡ Some r) × (slice_get (rels_at g t) number ≡ Some r)
-  rel_is number low = let r = get_some (rels_at g t) number low in (r.0, r.1, r.1)
+  -- where a relationship begins and where it ends
+  source_is : (number : ℕ) → number < length (rels_at g t) → source g (rel t number) ≡ Some (node k.from (get_or (near_ends g t Forward) number 0))
+  unfolding source
+  source_is number low =
+      let r = get_some (rels_at g t) number low in
+      ap₂ source_in table_is r.1 ∙ ap (λ row. Some (node k.from row)) (sym (ends_at Forward (rels_at g t) number r.0 r.1))
+
+  target_is : (number : ℕ) → number < length (rels_at g t) → target g (rel t number) ≡ Some (node k.to (get_or (near_ends g t Backward) number 0))
+  unfolding target
+  target_is number low =
+      let r = get_some (rels_at g t) number low in
+      ap₂ target_in table_is r.1 ∙ ap (λ row. Some (node k.to row)) (sym (ends_at Backward (rels_at g t) number r.0 r.1))
 
   near_is : (way : Direction) (number : ℕ) → number < length (rels_at g t) → near g way (rel t number) ≡ Some (node (near_table way k) (get_or (near_ends g t way) number 0))
-  unfolding source target
-  near_is Forward number low =
-      let r = rel_is number low in
-      ap₂ source_in table_is r.1 ∙ ap (λ row. Some (node k.from row)) (sym (ends_at Forward (rels_at g t) number r.0 r.2))
-  near_is Backward number low =
-      let r = rel_is number low in
-      ap₂ target_in table_is r.1 ∙ ap (λ row. Some (node k.to row)) (sym (ends_at Backward (rels_at g t) number r.0 r.2))
+  near_is Forward number low = source_is number low
+  near_is Backward number low = target_is number low
 
   far_is : (way : Direction) (number : ℕ) → number < length (rels_at g t) → far g way (rel t number) ≡ Some (node (far_table way k) (get_or (near_ends g t (opposite way)) number 0))
-  unfolding source target
-  far_is Forward number low =
-      let r = rel_is number low in
-      ap₂ target_in table_is r.1 ∙ ap (λ row. Some (node k.to row)) (sym (ends_at Backward (rels_at g t) number r.0 r.2))
-  far_is Backward number low =
-      let r = rel_is number low in
-      ap₂ source_in table_is r.1 ∙ ap (λ row. Some (node k.from row)) (sym (ends_at Forward (rels_at g t) number r.0 r.2))
+  far_is Forward number low = target_is number low
+  far_is Backward number low = source_is number low
 
   -- those of a table are met at nodes of one table alone
   not_met : (way : Direction) (n : NodeId) → nat_eq (near_table way k) n.table ≡ false → (count first : ℕ) → first + count ≤ length (rels_at g t)

@@ -4,6 +4,7 @@ mod Hopping
 mod Marking
 mod Owing
 pub mod Reaching
+mod Rounds
 mod Searching
 mod Sites
 mod Sizing

@@ -1,8 +1,7 @@
 -- Breadth-first search meets the nodes to which relationships lead, each once.
-use Rattle.std.proofs.Common.{◌≡◌, ℕ, zero, suc, ◌+◌, ◌-◌, ◌<◌, ◌≤◌, Bool, true, false, not, ◌&&◌, ◌||◌, cond, Option, Some, None, List, [], ◌∷◌, ◌++◌, take, drop, filter, length, get_or, refl, sym, ap, ap₂, ◌∙◌, subst, arith, true≢false, append_assoc, append-nil}
+use Rattle.std.proofs.Common.{◌≡◌, ℕ, zero, suc, ◌+◌, ◌-◌, ◌<◌, ◌≤◌, Bool, true, false, not, ◌&&◌, ◌||◌, Option, Some, None, List, [], ◌∷◌, ◌++◌, take, drop, length, get_or, refl, sym, ap, ap₂, ◌∙◌, subst, arith, true≢false, append_assoc, append-nil}
 use Rattle.std.specs.Prelude.{if◌then◌else◌}
 use Rattle.std.specs.List.{list_any}
-use Rattle.std.proofs.lemmas.Bool.{and_from, and_parts}
 use Rattle.std.proofs.lemmas.List.{take-append-drop}
 use Rattle.std.proofs.lemmas.List.Folds.{list_any-append}
 use Rattle.gq_base.specs.Lists.{all_distinct}
@@ -29,6 +28,7 @@ use Rattle.gq_hops.specs.declared.follow.Met.{Met}
 use Rattle.gq_hops.specs.steps.Hops.{IsHop, IsMetNext, left_of}
 use Rattle.gq_hops.specs.steps.Sizes.{AreNodes}
 use Rattle.gq_marks.specs.Visiting.{with_node}
+use Rattle.gq_law_ends.proofs.Leading.{any_filter}
 
 or_first : (a b : Bool) → a ≡ true → (a || b) ≡ true
 or_first a b h = ap (λ c. c || b) h
@@ -40,14 +40,6 @@ or_second false b h = h
 or_three : (a b c : Bool) → ((a || b) || c) ≡ (a || (b || c))
 or_three true b c = refl
 or_three false b c = refl
-
-any_filter : {X : Type 0} (p q : X → Bool) (xs : List X) → list_any p (filter q xs) ≡ list_any (λ x. q x && p x) xs
-any_filter p q [] = refl
-any_filter p q (x ∷ xs) = go (q x) (any_filter p q xs)
-  where
-    go : (b : Bool) → list_any p (filter q xs) ≡ list_any (λ z. q z && p z) xs → list_any p (cond b (x ∷ filter q xs) (filter q xs)) ≡ ((b && p x) || list_any (λ z. q z && p z) xs)
-    go true e = ap (λ b. p x || b) e
-    go false e = e
 
 -- ---- a longer list begins with what was met
 

@@ -44,7 +44,7 @@ started k l at start =
     ap (λ (n : NodeId). left_at k.graph k.kind k.way n l.table l.place) start.at_is ∙ ap₂ (left_at k.graph k.kind k.way at) start.table_is start.place_is
 
 -- a walk that is reached ends where it may, or not
-module _ (c : Run) (old new : Search) (n : IsNext c old new) where
+module _ (c : Run) (old new : Search) (n : IsNext (owed_by c) c old new) where
   abbrev walk : List RelId
   walk = onto (rels_in c new) new.depth []
 
@@ -109,7 +109,7 @@ module _ (r : declared.Run) (s : Search) (open_at : IsOpen (run_of r) s) where
   -- ---- back
 
   module _ (spent : IsSpent r s s) where
-    pub at_end : s.depth ≡ 0 → IsEnd (run_of r) s s
+    pub at_end : s.depth ≡ 0 → IsEnd (owed_by (run_of r)) (run_of r) s s
     unfolding behind
     at_end first = record {
       open_at = open_at;
@@ -275,7 +275,7 @@ module _ (r : declared.Run) (s : Search) (open_at : IsOpen (run_of r) s) where
       owed_is : behind (run_of r) (rels_in (run_of r) new) new.levels.items (suc (suc s.depth)) ≡ owed_by (run_of r) new
       owed_is = ap (λ n. behind (run_of r) (rels_in (run_of r) new) new.levels.items (suc n)) (sym is.depth)
 
-      pub at_next : r.low ≤ new.depth → IsNext (run_of r) s new
+      pub at_next : r.low ≤ new.depth → IsNext (owed_by (run_of r)) (run_of r) s new
       at_next far_enough =
           let stops : nat_eq (r.low - suc s.depth) 0 ≡ true = (let none : r.low - suc s.depth ≡ 0 = omega (arith, far_enough, is.depth) in ap (λ n. nat_eq n 0) none) in
           record {
@@ -401,5 +401,5 @@ module _ (r : declared.Run) (s mid : Search) (m : Met) (open_at : IsOpen (run_of
     pub kept_longer : (nat_le r.low new.depth && nat_eq ((run_of r).bounds new.last) 0) ≡ false → kept_by (run_of r) s ≡ kept_by (run_of r) new
     kept_longer ends = kept_on r s open_at t.low t.level seen.hop t.first free m seen.is site_is new longer.level is_longer fits start ends
 
-    pub next_longer : r.low ≤ new.depth → IsNext (run_of r) s new
+    pub next_longer : r.low ≤ new.depth → IsNext (owed_by (run_of r)) (run_of r) s new
     next_longer enough = at_next r s open_at t.low t.level seen.hop t.first free m seen.is site_is new longer.level is_longer fits start enough

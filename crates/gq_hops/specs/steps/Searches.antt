@@ -171,28 +171,17 @@ abbrev pub IsTried : declared.Run → Search → Search → Option Met → Type 
 IsTried r old new found = MatchOption found (IsSpent r old new) (IsSeen r old new)
 
 -- the first of what was owed is the walk, and the rest is owed
-pub record IsNext (c : Run) (old new : Search) : Type 0 where
+pub record IsNext (owed : Search → List (List RelId)) (c : Run) (old new : Search) : Type 0 where
   pub open_at : IsOpen c new
-  pub next : owed_by c old ≡ onto (rels_in c new) new.depth [] ∷ owed_by c new
+  pub next : owed old ≡ onto (rels_in c new) new.depth [] ∷ owed new
   pub ends : (at : Option NodeId) → end_of c.course.graph c.course.way at (onto (rels_in c new) new.depth []) ≡ Some new.last
   pub there : is_node c.course.graph new.last ≡ true
 
 -- nothing was owed
-pub record IsEnd (c : Run) (old new : Search) : Type 0 where
+pub record IsEnd (owed : Search → List (List RelId)) (c : Run) (old new : Search) : Type 0 where
   pub open_at : IsOpen c new
-  pub none : owed_by c old ≡ []
+  pub none : owed old ≡ []
 
--- the first of what was owed that ends where it may is the walk, and the rest of these is owed
-pub record IsFound (c : Run) (old new : Search) : Type 0 where
-  pub open_at : IsOpen c new
-  pub next : kept_by c old ≡ onto (rels_in c new) new.depth [] ∷ kept_by c new
-  pub ends : (at : Option NodeId) → end_of c.course.graph c.course.way at (onto (rels_in c new) new.depth []) ≡ Some new.last
-  pub there : is_node c.course.graph new.last ≡ true
-
--- none of what was owed ends where it may
-pub record IsOut (c : Run) (old new : Search) : Type 0 where
-  pub open_at : IsOpen c new
-  pub none : kept_by c old ≡ []
-
+-- what is owed are the walks that end where they may
 abbrev pub IsSearched : Run → Search → Bool → Search → Type 0
-IsSearched c old found new = MatchBool found (IsFound c old new) (IsOut c old new)
+IsSearched c old found new = MatchBool found (IsNext (kept_by c) c old new) (IsEnd (kept_by c) c old new)

@@ -1,35 +1,15 @@
-use Rattle.std.proofs.Common.{◌≡◌, ◌<◌, ◌+◌, ◌∷◌, Some, drop, length, get_or, sym, ap, ◌∙◌, subst}
-use Rattle.std.proofs.lemmas.List.{get_or_append_left}
-use Rattle.std.proofs.lemmas.Option.{get_or_from_slice_get}
+use Rattle.std.proofs.Common.{◌≡◌, ◌<◌, drop, sym, ap, ◌∙◌, subst}
 use Rattle.std.specs.List.{list_any}
 use Rattle.gq_plan.specs.Assignments.{same_node}
-use Rattle.gq_hops.specs.Levels.{met_all, spread_each}
-use Rattle.gq_hops.proofs.Reaching.{Longer, drop_at, longer_both, longer_each, longer_over, there_longer}
+use Rattle.gq_hops.specs.Levels.{spread_each}
+use Rattle.gq_hops.proofs.Reaching.{longer_each, there_longer}
+use Rattle.gq_hops.proofs.Rounds.{round_next}
 use Rattle.gq_hops.proofs.reach.seek_from.Goals as goal
 
 pub loop-place-preserved : goal.loop-place-preserved
 loop-place-preserved c =
-    let g = c.args.follow.now.graph.now in
-    let kind = c.args.follow.now.kind.now in
-    let way = c.args.follow.now.way in
-    let used = c.args.used.now in
-    let old = c.args.visited.now.nodes in
-    let mid = c.loop-place.visited.nodes in
-    let i = c.loop-place.place in
-    let at = c.node-at.result in
-    let inv = c.loop-place.invariant in
-    let low : i < length old = subst (λ k. i < k) c.count-stop.ensures c.loop-place-test.true in
-    let is : at ≡ get_or old i at =
-    sym (get_or_from_slice_get mid i at at c.node-at.ensures) ∙ ap (λ l. get_or l i at) inv.longer.is ∙ get_or_append_left old inv.longer.more at i low in
-    record {
-      sizes = c.expand.ensures.sizes ∙ inv.sizes;
-      there = c.expand.ensures.there;
-      longer = longer_both old mid c.expand.new.visited.nodes inv.longer
-          (subst (Longer mid) (sym c.expand.ensures.nodes) (longer_over g kind way used mid (met_all g kind way (Some at))));
-      rest = ap (λ ns. spread_each g kind way used ns (drop (i + 1) old)) c.expand.ensures.nodes
-          ∙ ap (λ n. spread_each g kind way used mid (n ∷ drop (i + 1) old)) is
-          ∙ ap (spread_each g kind way used mid) (sym (drop_at old i at low)) ∙ inv.rest;
-    }
+    round_next c.args.follow.now c.args.used.now c.args.visited.now c.args.next c.loop-place.place c.loop-place.visited c.expand.new.visited c.node-at.result c.loop-place.invariant
+    (subst (λ k. c.loop-place.place < k) c.count-stop.ensures c.loop-place-test.true) c.node-at.ensures c.expand.ensures.sizes c.expand.ensures.there c.expand.ensures.nodes
 
 pub returns-then-has-clause-met : goal.returns-then-has-clause-met
 returns-then-has-clause-met c =

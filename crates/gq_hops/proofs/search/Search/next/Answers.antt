@@ -3,7 +3,7 @@ use Rattle.std.proofs.lemmas.Bool.{and_parts}
 use Rattle.std.proofs.lemmas.Bool.Decides.{nat_tests}
 use Rattle.gq_base.specs.declared.NodeId.{NodeId}
 use Rattle.gq_plan.specs.Assignments.{is_node}
-use Rattle.gq_hops.specs.steps.Searches.{IsEnd, IsOpen, IsSeen, IsSpent, kept_by, run_of, with_level}
+use Rattle.gq_hops.specs.steps.Searches.{IsEnd, IsOpen, IsSeen, IsSpent, kept_by, owed_by, run_of, with_level}
 use Rattle.gq_hops.specs.declared.search.Search.{Search}
 use Rattle.gq_hops.proofs.Searching.{at_end, kept_first, kept_longer, kept_none, kept_passed, kept_same, less_longer, less_mid, less_passed, less_up, next_longer, open_longer, open_mid, open_passed, open_up, owed_far, owed_mid, owed_up, stands_is}
 use Rattle.gq_hops.proofs.Weights.{weight}
@@ -118,7 +118,7 @@ returns-then-self-eq0 c =
     let s = c.loop-met.self in
     let t : IsSpent r s c.try_next.new.self = c.in-None.ensures in
     let first = ap (λ (m : Search). m.depth) (sym t.same) ∙ c.if-self-eq0.true in
-    let end : IsEnd (run_of r) s s = at_end r s c.loop-met.invariant.open_at (subst (λ m. IsSpent r s m) t.same t) first in
+    let end : IsEnd (owed_by (run_of r)) (run_of r) s s = at_end r s c.loop-met.invariant.open_at (subst (λ m. IsSpent r s m) t.same t) first in
     record {
       open_at = subst (IsOpen (run_of r)) (sym t.same) end.open_at;
       none = c.loop-met.invariant.owed ∙ kept_none (run_of r) s end.none;
