@@ -1,7 +1,7 @@
 //! Conditions on a relationship, decided by the place at which it stands.
 ghost use Rattle.std.specs.Prelude.{◌≡◌, ◌<◌, IfSome, IsTrue, false, true};
 ghost use Rattle.gq_filter.specs.Placed.{Passes, Refuses};
-ghost use Rattle.gq_filter.specs.steps.Placing.{ArePlaced, IsPlaced, IsTestOf};
+ghost use Rattle.gq_filter.specs.steps.Placing.{ArePlaced, IsPlaced, IsPlacementOf, IsTestOf};
 
 use crate::cells::holds_at;
 use crate::lane_test::LaneTest;
@@ -43,24 +43,69 @@ impl PlacedTest<'_> {
     }
 }
 
-/// A test of lanes, if all lanes are of one relationship variable.
+/// The one relationship variable of a test's lanes, and how many places have cells in each of them.
+#[derive(Clone, Copy)]
+pub(crate) struct Placement {
+    rel: u32,
+    places: u32,
+}
+
+/// That of these lanes, if all are of one relationship variable.
+pub(crate) fn placement_of(feeds: &[Feed<'_>]) -> Option<Placement>
+    ensures { IfSome result (IsPlacementOf feeds.now) }
+{
+    let first = feeds.first()?;
+    let Variable::Rel(rel) = first.variable else {
+        return None;
+    };
+    let places = first.property.column().len();
+    if !are_placed(feeds, rel, places) {
+        return None;
+    }
+    Some(Placement { rel, places })
+}
+
+/// A test of lanes, if it is known of them that all are of this relationship variable.
 pub(crate) fn placed_test<'r>(
     test: &'r LaneTest,
     feeds: &'r [Feed<'r>],
+    placement: Option<Placement>,
     rel: u32,
 ) -> Option<PlacedTest<'r>>
+    requires { IfSome placement (IsPlacementOf feeds.now) }
     ensures { IfSome result (IsTestOf test.now feeds.now rel) }
 {
-    let first = feeds.first()?;
-    let places = first.property.column().len();
-    if !are_placed(feeds, rel, places) {
+    match placement {
+        None => None,
+        Some(placement) => placed_by(test, feeds, placement, rel),
+    }
+}
+
+// The same where all are of one relationship variable.
+fn placed_by<'r>(
+    test: &'r LaneTest,
+    feeds: &'r [Feed<'r>],
+    placement: Placement,
+    rel: u32,
+) -> Option<PlacedTest<'r>>
+    requires { IsPlacementOf feeds.now placement }
+    ensures { IfSome result (IsTestOf test.now feeds.now rel) }
+{
+    if !is_rel(placement.rel, rel) {
         return None;
     }
     Some(PlacedTest {
         test,
         feeds,
-        places,
+        places: placement.places,
     })
+}
+
+// Whether two relationship variables are the same one.
+fn is_rel(own: u32, rel: u32) -> bool
+    ensures { IsTrue result → own ≡ rel }
+{
+    own == rel
 }
 
 // Whether each feed is of a relationship variable, and its column has so many places.

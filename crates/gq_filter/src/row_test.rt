@@ -17,7 +17,7 @@ use crate::deciders::{evaluator_of, is_true, test_of};
 use crate::equalities::{EqualColumns, equal_columns};
 use crate::kernels::keep_lanes;
 use crate::lane_test::LaneTest;
-use crate::placed::{PlacedTest, placed_test};
+use crate::placed::{PlacedTest, Placement, placed_test, placement_of};
 use crate::recall::Recall;
 use crate::row_cells::RowCells;
 use crate::row_feeds::add_feeds;
@@ -44,6 +44,8 @@ pub struct RowTest<'g> {
     // What decides it, if lanes can, and the feeds of the lanes.
     test: Option<LaneTest>,
     feeds: Vec<Feed<'g>>,
+    // What places have to do with it, if all lanes are of one relationship variable.
+    placement: Option<Placement>,
     // What decides it where lanes cannot, if it asks for a part of a text.
     text: Option<PartTest<'g>>,
     // What decides it where neither does.
@@ -56,9 +58,11 @@ pub struct RowTest<'g> {
 
 impl<'g> Model for RowTest<'g> {
     ghost use Rattle.std.specs.Coded.{codes};
+    ghost use Rattle.std.specs.Prelude.{IfSome};
     ghost use Rattle.gq_expr.specs.contracts.expr.Expr as expr;
     ghost use Rattle.gq_filter.specs.RowTests.{RowCondition};
     ghost use Rattle.gq_filter.specs.steps.Evaluating.{Evaluates};
+    ghost use Rattle.gq_filter.specs.steps.Placing.{IsPlacementOf};
     ghost use Rattle.gq_filter.specs.steps.Recalling.{TellsOf};
     ghost use Rattle.gq_filter.specs.steps.RowCells.{AreFeedsIn, DecidesRows};
     ghost use Rattle.gq_filter.specs.steps.Texts.{AreKnown, TextDecides};
@@ -78,7 +82,8 @@ impl<'g> Model for RowTest<'g> {
         × TextDecides t.graph.now t.typed.now t.condition.now t.text
         × Evaluates t.graph.now t.condition.now t.test t.text t.evaluator
         × TellsOf t.feeds.items t.test t.recall.passed.told
-        × AreKnown t.text t.tried.known };
+        × AreKnown t.text t.tried.known
+        × IfSome t.placement (IsPlacementOf t.feeds.items) };
 }
 
 impl<'g> RowTest<'g> {
@@ -96,6 +101,7 @@ impl<'g> RowTest<'g> {
         let mut feeds = Vec::new(alloc);
         add_feeds(&mut feeds, graph, typed, &condition.expr)?;
         let test = test_of(alloc, graph, typed, condition, feeds.as_slice())?;
+        let placement = placement_of(feeds.as_slice());
         let text = text_test(graph, typed, condition);
         let evaluator = evaluator_of(alloc, graph, condition, &test, &text)?;
         Ok(RowTest {
@@ -104,6 +110,7 @@ impl<'g> RowTest<'g> {
             condition,
             test,
             feeds,
+            placement,
             text,
             evaluator,
             recall: Recall::none(alloc),
@@ -191,7 +198,7 @@ impl<'g> RowTest<'g> {
     {
         match &self.test {
             None => None,
-            Some(test) => placed_test(test, self.feeds.as_slice(), rel),
+            Some(test) => placed_test(test, self.feeds.as_slice(), self.placement, rel),
         }
     }
 

@@ -9,4 +9,4 @@ ask-requires c = subst {A = Option PartTest} (λ t. AreKnown t c.self.inside.tri
 pub invariant_of-self : goal.invariant_of-self
 invariant_of-self c =
     let known = subst {A = Option PartTest} (λ t. AreKnown t c.ask.new.self.known) (sym c.in-Some.is) c.ask.ensures in
-    (c.self.invariant.0, c.self.invariant.1, c.self.invariant.2, c.self.invariant.3, c.self.invariant.4, known)
+    (c.self.invariant.0, c.self.invariant.1, c.self.invariant.2, c.self.invariant.3, c.self.invariant.4, known, c.self.invariant.6)

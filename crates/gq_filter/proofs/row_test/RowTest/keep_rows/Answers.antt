@@ -23,7 +23,7 @@ invariant_of-self c =
     let i = c.self.inside in
     let told = c.keep.new.self.passed.told in
     let at_items = subst (λ (feeds : List Feed). TellsTest feeds c.in-Some.test told) c.as_slice-feeds.ensures.value c.keep.ensures.tells in
-    (c.self.invariant.0, c.self.invariant.1, c.self.invariant.2, c.self.invariant.3, subst {A = Option LaneTest} (λ t. TellsOf i.feeds.items t told) (sym c.in-Some.is) at_items, c.self.invariant.5)
+    (c.self.invariant.0, c.self.invariant.1, c.self.invariant.2, c.self.invariant.3, subst {A = Option LaneTest} (λ t. TellsOf i.feeds.items t told) (sym c.in-Some.is) at_items, c.self.invariant.5, c.self.invariant.6)
 
 pub returns-then-are_spanned-clause-kept : goal.returns-then-are_spanned-clause-kept
 returns-then-are_spanned-clause-kept c =

@@ -1,11 +1,14 @@
-use Rattle.std.proofs.Common.{subst}
+use Rattle.std.proofs.Common.{sym, subst}
 use Rattle.std.specs.Prelude.{IfSome}
 use Rattle.gq_filter.specs.Placed.{IsPassingTest, IsPlacedTest}
 use Rattle.gq_filter.specs.RowTests.{RowCondition}
-use Rattle.gq_filter.specs.steps.Placing.{IsTestOf}
+use Rattle.gq_filter.specs.steps.Placing.{IsPlacementOf, IsTestOf}
 use Rattle.gq_filter.specs.steps.RowCells.{DecidesRows}
 use Rattle.gq_filter.proofs.Placing.{passed_by, refused_by}
 use Rattle.gq_filter.proofs.row_test.RowTest.placed.Goals as goal
+
+pub placed_test-requires : goal.placed_test-requires
+placed_test-requires c = subst (λ feeds. IfSome c.self.inside.placement (IsPlacementOf feeds)) (sym c.as_slice.ensures.value) c.self.invariant.6
 
 pub returns-in-Some-clause-refuses : goal.returns-in-Some-clause-refuses
 returns-in-Some-clause-refuses c =
