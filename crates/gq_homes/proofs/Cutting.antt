@@ -5,10 +5,6 @@ use Rattle.std.proofs.lemmas.List.{append_assoc, append-nil, drop_more, drop_all
 use Rattle.gq_plan.specs.Plans.{Then, Step, Keep, steps}
 use Rattle.gq_law_groups.specs.Groups.{Group, makes_group, checked, cut_from, plan_of}
 use Rattle.gq_law_groups.specs.Order.{NoGroups, AreCut}
-use Rattle.gq_law_groups.specs.Layout.{known_with, AreFlatEnough}
-use Rattle.gq_base.specs.Catalogs.{Tables}
-use Rattle.gq_plan.specs.Known.{Known}
-use Rattle.gq_plan.specs.declared.typed.Typed.{Typed}
 use Rattle.std.specs.Prelude.{slice_index_or}
 use Rattle.gq_homes.specs.Cuts.{flag, IsGroupOf, TilesTo, IsCutTo}
 use Rattle.gq_homes.specs.steps.Cutting.{IsCutting}
@@ -156,16 +152,6 @@ cut_same s ks [] (b ∷ gs) none cut =
 cut_same s ks (t ∷ cs) gs none cut =
     ap (λ b. cond b (record { binds = s; checks = ks } ∷ cut_from t [] (checked cs (plan_of gs))) (cut_from s (ks ++ t ∷ []) (checked cs (plan_of gs)))) none.0
     ∙ cut_same s (ks ++ t ∷ []) cs gs none.1 cut ∙ ap (λ l. record { binds = s; checks = l } ∷ gs) (append_assoc ks (t ∷ []) cs)
-
--- what is enough reads the groups' own flags only
-pub enough_same : (catalog : Tables) (y : Typed) (f h : ℕ → Bool) (i : ℕ) (gs : List Group) (k : Known) → ((j : ℕ) → i ≤ j → j < i + length gs → f j ≡ h j) → AreFlatEnough catalog y f i gs k → AreFlatEnough catalog y h i gs k
-enough_same catalog y f h i [] k same e = tt
-enough_same catalog y f h i (b ∷ gs) k same e = (
-  e.0,
-  e.1,
-  enough_same catalog y f h (i + 1) gs (known_with (h i) b k) (λ j low high. same j (omega (arith, low)) (omega (arith, high)))
-      (subst (λ t. AreFlatEnough catalog y f (i + 1) gs (known_with t b k)) (same i (omega arith) (omega arith)) e.2),
-)
 
 pub tiles_run : (c : Run) (from : ℕ) (gs : List GroupSteps) → TilesTo c.steps from gs (length c.steps) → Tiles c from gs
 tiles_run c from [] h = h

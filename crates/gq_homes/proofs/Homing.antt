@@ -356,19 +356,15 @@ module _ (c : Run) (run : IsRun c) (h : Homes) (nodes : length h.nodes ≡ lengt
           (still_filling ss (after_step s k) (housed o i (length fs) s h) m (filling_at fs m) on a.keeps (old m below))
       go (inr above) = new_filling ss i d m low d_low s at first fit built columns a.keeps above inside
 
+less : (before later : Bool) → (before ≡ true → later ≡ true) → later ≡ false → before ≡ false
+less true later keeps e = absurd (true≢false (sym (keeps refl) ∙ e))
+less false later keeps e = refl
+
 less_node : (s : Step) (k : Known) (v : ℕ) → (after_step s k).nodes v ≡ false → k.nodes v ≡ false
-less_node s k v e = go (k.nodes v) refl
-  where
-    go : (b : Bool) → k.nodes v ≡ b → k.nodes v ≡ false
-    go true is = absurd (true≢false (sym (Rattle.gq_steps.proofs.Binding.step_keeps_node s k v is) ∙ e))
-    go false is = is
+less_node s k v = less (k.nodes v) ((after_step s k).nodes v) (Rattle.gq_steps.proofs.Binding.step_keeps_node s k v)
 
 less_rel : (s : Step) (k : Known) (x : ℕ) → (after_step s k).rels x ≡ false → k.rels x ≡ false
-less_rel s k x e = go (k.rels x) refl
-  where
-    go : (b : Bool) → k.rels x ≡ b → k.rels x ≡ false
-    go true is = absurd (true≢false (sym (Rattle.gq_steps.proofs.Binding.step_keeps_rel s k x is) ∙ e))
-    go false is = is
+less_rel s k x = less (k.rels x) ((after_step s k).rels x) (Rattle.gq_steps.proofs.Binding.step_keeps_rel s k x)
 
 -- ---- the steps of a group
 

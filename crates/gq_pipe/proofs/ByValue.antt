@@ -30,7 +30,7 @@ use Rattle.gq_plan.specs.declared.bound.NamedExpr.{NamedExpr}
 use Rattle.gq_plan.specs.declared.typed.Typed.{Typed}
 use Rattle.gq_same_texts.specs.Same.{Dicts, HaveOneText}
 use Rattle.gq_same_texts.specs.declared.asked.EqualTexts.{EqualTexts}
-use Rattle.gq_sift.proofs.Judged.{judged}
+use Rattle.gq_chains.proofs.Sifting.{judged}
 use Rattle.gq_steps.specs.Keeps.{makes_one, IsRange}
 use Rattle.gq_steps.specs.Levels.{Run, step_at, built_at, known, before}
 use Rattle.gq_steps.specs.Matches.{AreMatches}

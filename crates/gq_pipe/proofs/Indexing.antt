@@ -9,7 +9,7 @@ use Rattle.gq_bits.specs.Places.{is_marked}
 use Rattle.gq_bits.specs.declared.TheConstants.{VECTOR}
 use Rattle.gq_join.specs.Kept.{place_of}
 use Rattle.gq_plan.specs.declared.assignment.Assignment.{Assignment}
-use Rattle.gq_sift.specs.Among.{IsAmong}
+use Rattle.gq_chains.specs.Among.{IsAmong}
 use Rattle.gq_steps.specs.Groups.{group_at, no_group}
 use Rattle.gq_steps.specs.Keeps.{makes_one}
 use Rattle.gq_steps.specs.Levels.{Run, before, built_at, step_at}

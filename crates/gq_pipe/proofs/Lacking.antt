@@ -1,6 +1,5 @@
 -- A list is not closed between two nodes where no relationship leads from the one to the other.
-use Rattle.std.proofs.Common.{◌≡◌, ℕ, zero, suc, ◌+◌, ◌<◌, Bool, true, false, cond, eqb, Some, List, [], ◌∷◌, map, length, get_or, slice_get, refl, sym, ap, ap₂, ◌∙◌, subst, arith, inl, inr}
-use Rattle.std.specs.List.{AllByRecursion, range_with_len}
+use Rattle.std.proofs.Common.{◌≡◌, ℕ, zero, suc, ◌<◌, Bool, true, false, cond, eqb, Some, List, [], ◌∷◌, map, length, get_or, slice_get, refl, sym, ap, ap₂, ◌∙◌, subst, arith, inl, inr}
 use Rattle.std.proofs.lemmas.Bool.{eq-eqb, eqb-true, or_right}
 use Rattle.gq_adj.specs.Adjacent.{targets}
 use Rattle.gq_base.specs.Directions.{opposite}
@@ -22,6 +21,7 @@ use Rattle.gq_law_groups.proofs.Closing.{Marks, closes_end}
 use Rattle.gq_law_groups.proofs.Ending.{EndsAt}
 use Rattle.gq_pipe.specs.steps.Told.{Closes}
 use Rattle.gq_plan.specs.declared.follow.Follow.{Follow}
+use Rattle.gq_law_masks.proofs.Masking.{all-range, get-some}
 
 -- the item of a pair stands among the targets of its vertex
 stands-target : (fs ts : List ℕ) (i : ℕ) → i < length fs → length fs ≡ length ts → stands_in (targets (get_or fs i 0) fs ts) (get_or ts i 0) ≡ true
@@ -85,15 +85,6 @@ module _ (g : Graph) (t : ℕ) (table : RelTable) (table_is : slice_get g.catalo
       stands_in (neighbours g t way m.row) n.row ≡ true
   returns Forward m n f h low = forward n m h f low
   returns Backward m n f h low = backward m n f h low
-
-get-some : {X : Type 0} (xs : List X) (i : ℕ) → i < length xs → (x : X) × (slice_get xs i ≡ Some x)
-get-some [] i low = absurd (omega arith)
-get-some (x ∷ xs) zero low = (x, refl)
-get-some (x ∷ xs) (suc i) low = get-some xs i (omega arith)
-
-all-range : {X : Type 0} (P : X → Type 0) (f : ℕ → X) (a n : ℕ) → ((i : ℕ) → i < a + n → P (f i)) → AllByRecursion P (map f (range_with_len a n))
-all-range P f a zero h = tt
-all-range P f a (suc n) h = (h a (omega arith), all-range P f (a + 1) n (λ i low. h i (omega (arith, low))))
 
 module _ (g : Graph) (y : Typed) (x : ℕ) (r : TypedRel) (t : RelTable) (is : slice_get y.rels x ≡ Some r) (table_is : slice_get g.catalog.rels r.table ≡ Some t) where
   marks-of : (way : Direction) (selected marked : NodeId → Bool)

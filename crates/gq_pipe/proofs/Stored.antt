@@ -16,6 +16,7 @@ use Rattle.gq_plan.specs.Assignments.{nodes_of, source, target, source_in, targe
 use Rattle.gq_plan.specs.Meaning.{Partial, nothing, with_node, with_rel, with_all, look, agree, far, arrive, keep_if, nodes_for, rels_from, mean, step}
 use Rattle.gq_plan.specs.Plans.{Plan, Done, Then, Step, Scan, Extend, Close, Join, Keep, Differ, NoLoop, Single, Meet}
 use Rattle.gq_plan.specs.declared.typed.Typed.{Typed}
+use Rattle.gq_join.proofs.Sorting.{all_filter}
 
 -- ---- lists
 
@@ -30,14 +31,6 @@ all_flat P Q f (x ∷ xs) each h = all_append Q (f x) (flat_map f xs) (each x h.
 all_map : {X Y : Type 0} (P : X → Type 0) (Q : Y → Type 0) (f : X → Y) (xs : List X) → ((x : X) → P x → Q (f x)) → AllByRecursion P xs → AllByRecursion Q (map f xs)
 all_map P Q f [] each h = tt
 all_map P Q f (x ∷ xs) each h = (each x h.0, all_map P Q f xs each h.1)
-
-all_filter : {X : Type 0} (P : X → Type 0) (p : X → Bool) (xs : List X) → AllByRecursion P xs → AllByRecursion P (filter p xs)
-all_filter P p [] h = tt
-all_filter P p (x ∷ xs) h = go (p x) (all_filter P p xs h.1)
-  where
-    go : (b : Bool) → AllByRecursion P (filter p xs) → AllByRecursion P (cond b (x ∷ filter p xs) (filter p xs))
-    go true more = (h.0, more)
-    go false more = more
 
 anything : {X : Type 0} (xs : List X) → AllByRecursion (λ x. Unit {0}) xs
 anything [] = tt

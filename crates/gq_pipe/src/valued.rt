@@ -9,7 +9,7 @@ ghost use Rattle.gq_pipe.specs.steps.Recalled.{IsOwn};
 ghost use Rattle.gq_pipe.specs.steps.Valued.{AreIndexed, AreOpened, IsAsked, IsFoundBy, IsFoundIn, IsIndexed};
 ghost use Rattle.gq_pipe.specs.steps.Valued.{IsNotBefore, IsNotBy, IsOpened, IsUsable};
 ghost use Rattle.gq_pipe.specs.steps.Valued.{dicts_of, number_in, numbers_in};
-ghost use Rattle.gq_sift.specs.Among.{IsAmong};
+ghost use Rattle.gq_chains.specs.Among.{IsAmong};
 ghost use Rattle.gq_steps.specs.Keeps.{IsRange, IsSifted};
 ghost use Rattle.gq_steps.specs.Levels.{before, built_at, known, step_at};
 ghost use Rattle.gq_steps.specs.Matches.{AreMatches};

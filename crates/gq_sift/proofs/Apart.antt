@@ -11,6 +11,7 @@ use Rattle.gq_plan.specs.steps.Rows.{rel_in}
 use Rattle.gq_plan.specs.declared.assignment.Assignment.{Assignment}
 use Rattle.gq_plan.specs.declared.typed.RelPair.{RelPair}
 use Rattle.gq_plan.specs.declared.typed.Typed.{Typed}
+use Rattle.gq_chains.proofs.Apart.{apart, read_at}
 use Rattle.gq_steps.specs.Tests.{IsPairWith, other_of}
 use Rattle.gq_steps.specs.steps.Outcomes.{with_number}
 use Rattle.gq_steps.proofs.Followed.{get_some}
@@ -18,18 +19,6 @@ use Rattle.gq_plan.proofs.Rows.{rel_read}
 
 pub eqb-sym : (a b : ℕ) → (a == b) ≡ (b == a)
 eqb-sym a b = elim (cases_eq a b) [ inl e ↦ eq-eqb a b e ∙ sym (eq-eqb b a (sym e)) | inr other ↦ ne_eqb a b other ∙ sym (ne_eqb b a (λ e. other (sym e))) ]
-
--- what a relationship variable has
-pub read_at : (y : Typed) (row : Assignment) (x : ℕ) → length row.rels ≡ length y.rels → x < length y.rels → (as_read y row).rels x ≡ Some (rel_at y row x)
-read_at y row x many low =
-    let r = get_some y.rels x low in
-    rel_read y row x
-    ∙ ap₂ rel_in r.1 (slice_get-get_or row.rels x 0 (omega (arith, many, low)))
-    ∙ ap (λ o. Some (record { table = table_of o; row = slice_index row.rels x })) (sym r.1)
-
--- relationships of one table differ where their load numbers do
-pub apart : (t s m n : ℕ) → t ≡ s → not (same_rel (record { table = t; row = m }) (record { table = s; row = n })) ≡ not (m == n)
-apart t s m n same = rw (eq-eqb t s same) refl
 
 module _ (y : Typed) (x : ℕ) (pair : RelPair) (w : IsPairWith y x pair) (row : Assignment) (n : ℕ) (many : length (with_number x n row).rels ≡ length y.rels) (low : x < length y.rels) where
   abbrev exact : Assignment

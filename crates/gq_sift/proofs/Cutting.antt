@@ -2,8 +2,6 @@
 use Rattle.std.proofs.Common.{◌≡◌, ◌⊎◌, inl, inr, ◌<◌, ◌+◌, ◌∙◌, ℕ, false, Option, Some, None, sym, ap, subst}
 use Rattle.std.specs.Prelude.{IfSome}
 use Rattle.gq_plan.specs.declared.follow.Follow.{Follow}
-use Rattle.gq_sift.specs.declared.chain.Beginning.{Beginning}
-use Rattle.gq_sift.specs.steps.Chains.{BeginsBy, IsChain}
 use Rattle.gq_sift.specs.steps.Filters.{Filters, FiltersList, is_listed_step}
 use Rattle.gq_steps.specs.Keeps.{IsRange, IsTold}
 use Rattle.gq_steps.specs.Actions.{action_of}
@@ -15,7 +13,6 @@ use Rattle.gq_steps.specs.declared.cut.Cut.TheVariants as cut
 use Rattle.gq_steps.specs.declared.group_steps.GroupSteps.{GroupSteps}
 use Rattle.gq_steps.specs.declared.plan_run.PlanRun.{PlanRun}
 use Rattle.gq_steps.proofs.Acting.{acts}
-use Rattle.gq_sift.proofs.Reached.{begins_by}
 
 -- what is true in any case is true of what is there
 pub beside : {X A : Type 0} (P : X → Type 0) (o : Option X) → A → IfSome o P → IfSome o (λ x. A × P x)
@@ -51,10 +48,3 @@ module _ (k : PlanRun) (group : GroupSteps) (t : IsTold (run_of k) group) where
 
   pub some_told : group.cut ≡ cut.Told → group.first + 1 < group.end
   some_told is = subst (IsCut (run_of k) group.first group.end) is t.cut
-
-  pub chain_by : (o : Option Beginning) → IfSome o (λ b. (group.cut ≡ cut.Chain) × BeginsBy group.action b) → IfSome o (IsChain (run_of k) group)
-  chain_by None h = h
-  chain_by (Some b) h = record {
-    begins = begins_by k group.first group.action b t.action h.1;
-    goes_on = subst (IsCut (run_of k) group.first group.end) h.0 t.cut;
-  }

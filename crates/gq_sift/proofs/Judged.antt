@@ -12,14 +12,14 @@ use Rattle.gq_store.specs.Neighbours.{near_rows, neighbours, numbers}
 use Rattle.gq_search.specs.Layouts.{has_one}
 use Rattle.gq_steps.specs.Tests.{IsLoopTest, IsPairTest, IsRowTest, loop_of, other_of, pair_of, test_of}
 use Rattle.gq_steps.specs.Keeps.{IsRange, IsTriedAt}
-use Rattle.gq_sift.specs.steps.Judged.{IsJudged}
+use Rattle.gq_chains.specs.steps.Judged.{IsJudged}
 use Rattle.gq_steps.specs.Actions.{action_of}
 use Rattle.gq_steps.specs.Levels.{Run, step_at, known}
 use Rattle.gq_steps.specs.Moves.{run_of, IsRun, IsHeld, IsTried}
 use Rattle.gq_steps.specs.steps.Hops.{IsHop}
 use Rattle.gq_steps.specs.steps.Outcomes.{differs_at, no_loop_at, passes_at, tested, with_number, with_row}
 use Rattle.gq_steps.specs.Follows.{CanFollow}
-use Rattle.gq_sift.specs.steps.RowTests.{Extends, Leads}
+use Rattle.gq_chains.specs.steps.Extends.{Extends, Leads}
 use Rattle.gq_steps.specs.declared.follow.Hop.{Hop}
 use Rattle.gq_steps.specs.declared.action.Action.{Action}
 use Rattle.gq_steps.specs.declared.action.Action.TheVariants as act
@@ -27,6 +27,7 @@ use Rattle.gq_steps.specs.declared.group_steps.GroupSteps.{GroupSteps}
 use Rattle.gq_plan.specs.declared.follow.Follow.{Follow}
 use Rattle.gq_steps.specs.declared.plan_run.PlanRun.{PlanRun}
 use Rattle.gq_steps.specs.declared.plan_run.Tried.TheVariants.{Made}
+use Rattle.gq_chains.proofs.Acted.{differ_of, keep_of}
 use Rattle.gq_sift.proofs.Apart.{differs_by}
 use Rattle.gq_steps.proofs.Acting.{acts}
 use Rattle.gq_steps.proofs.Going.{IsGoing, begins, ends, made_first, tried_made, tried_missed}
@@ -35,33 +36,6 @@ use Rattle.gq_steps.proofs.Stepping.{follows}
 use Rattle.gq_steps.proofs.Testing.{differ_tried, keep_tried, no_loop_tried}
 use Rattle.gq_steps.proofs.Trying.{extend_can, extend_goes, extend_parts, extend_tried}
 use Rattle.gq_sift.proofs.Unlooped.{no_loop_by}
-
--- what was tried is judged
-pub judged : (c : Run) (group : GroupSteps) (place : ℕ) (old : Assignment) (told : Bool) (new : Assignment) → IsTriedAt c group place old told new → IsJudged c group place old told new
-judged c group place old true new t = record { held = t.held; alike = t.alike; answer = sym (ap has_one t.answer.made) }
-judged c group place old false new t = record { held = t.held; alike = t.alike; answer = sym (ap has_one t.answer) }
-
-pub keep_of : (s : Step) (i : ℕ) → test_of s ≡ Some i → s ≡ Keep i
-keep_of (Keep j) i is = let same : j ≡ i = cc in ap Keep same
-keep_of (Scan v) i is = cc
-keep_of (Extend column x from to way) i is = cc
-keep_of (Close column x from to way) i is = cc
-keep_of (Join side keys) i is = cc
-keep_of (Differ p) i is = cc
-keep_of (NoLoop x) i is = cc
-keep_of (Single x from to way) i is = cc
-keep_of (Meet x from to way) i is = cc
-
-pub differ_of : (s : Step) (i : ℕ) → pair_of s ≡ Some i → s ≡ Differ i
-differ_of (Differ j) i is = let same : j ≡ i = cc in ap Differ same
-differ_of (Scan v) i is = cc
-differ_of (Extend column x from to way) i is = cc
-differ_of (Close column x from to way) i is = cc
-differ_of (Join side keys) i is = cc
-differ_of (Keep t) i is = cc
-differ_of (NoLoop x) i is = cc
-differ_of (Single x from to way) i is = cc
-differ_of (Meet x from to way) i is = cc
 
 pub no_loop_of : (s : Step) (i : ℕ) → loop_of s ≡ Some i → s ≡ NoLoop i
 no_loop_of (NoLoop j) i is = let same : j ≡ i = cc in ap NoLoop same
@@ -75,31 +49,12 @@ no_loop_of (Single x from to way) i is = cc
 no_loop_of (Meet x from to way) i is = cc
 
 -- a step that does another thing asks for none
-pub no_test : (s : Step) → ((i : ℕ) → action_of s ≡ act.Test i → ⊥) → test_of s ≡ None
-no_test s none = go (test_of s) refl
-  where
-    go : (o : Option ℕ) → test_of s ≡ o → test_of s ≡ None
-    go None is = is
-    go (Some i) is = absurd (none i (ap action_of (keep_of s i is)))
-
-pub no_pair : (s : Step) → ((i : ℕ) → action_of s ≡ act.Differ i → ⊥) → pair_of s ≡ None
-no_pair s none = go (pair_of s) refl
-  where
-    go : (o : Option ℕ) → pair_of s ≡ o → pair_of s ≡ None
-    go None is = is
-    go (Some i) is = absurd (none i (ap action_of (differ_of s i is)))
-
 pub no_loop : (s : Step) → ((i : ℕ) → action_of s ≡ act.NoLoop i → ⊥) → loop_of s ≡ None
 no_loop s none = go (loop_of s) refl
   where
     go : (o : Option ℕ) → loop_of s ≡ o → loop_of s ≡ None
     go None is = is
     go (Some i) is = absurd (none i (ap action_of (no_loop_of s i is)))
-
--- the step at a depth follows a relationship so, where it is told what it does
-pub extends_by : (k : PlanRun) (d : ℕ) (a : Action) (f : Follow) → a ≡ action_of (step_at (run_of k) d) → Leads a f → Extends (run_of k) d f
-extends_by k d a f is (inl list) = (false, acts k d a (act.List f) is list)
-extends_by k d a f is (inr column) = (true, acts k d a (act.Column f) is column)
 
 -- with the load number of the relationship at a place, the steps of a group up to one make something of it
 pub record IsGoingBy (c : Run) (group : GroupSteps) (place : ℕ) (old : Assignment) (f : Follow) (d : ℕ) (row : Assignment) : Type 0 where

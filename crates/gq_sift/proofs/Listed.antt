@@ -29,7 +29,9 @@ use Rattle.gq_steps.specs.Tries.{tries}
 use Rattle.gq_steps.specs.declared.action.Action.TheVariants as act
 use Rattle.gq_steps.specs.declared.group_steps.GroupSteps.{GroupSteps}
 use Rattle.gq_plan.specs.declared.follow.Follow.{Follow}
-use Rattle.gq_sift.proofs.Judged.{IsGoingBy, all_going, apart, can_follow, differ_of, first_going, keep_of, loop_tried, next_going, next_missed, no_loop_of, pair_tried, row_tried, judged}
+use Rattle.gq_chains.proofs.Acted.{differ_of, keep_of}
+use Rattle.gq_chains.proofs.Sifting.{judged}
+use Rattle.gq_sift.proofs.Judged.{IsGoingBy, all_going, apart, can_follow, first_going, loop_tried, next_going, next_missed, no_loop_of, pair_tried, row_tried}
 use Rattle.gq_steps.proofs.Piecing.{listed_is}
 use Rattle.gq_steps.proofs.Trying.{extend_count, extend_goes}
 

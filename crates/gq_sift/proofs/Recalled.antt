@@ -25,7 +25,8 @@ use Rattle.gq_sift.specs.declared.remembered.KeptPiece.{KeptPiece}
 use Rattle.gq_sift.specs.declared.remembered.Remembered.{Remembered}
 use Rattle.gq_sift.specs.steps.Filters.{FiltersList, is_listed_step}
 use Rattle.gq_sift.specs.Tested.{IsTested, far_row, rows_keep}
-use Rattle.gq_sift.proofs.Judged.{apart, can_follow, differ_of, keep_of, no_loop_of}
+use Rattle.gq_chains.proofs.Acted.{differ_of, keep_of}
+use Rattle.gq_sift.proofs.Judged.{apart, can_follow, no_loop_of}
 use Rattle.gq_steps.specs.Keeps.{IsRange}
 use Rattle.gq_steps.specs.Levels.{Run, known, step_at}
 use Rattle.gq_steps.specs.Moves.{IsRun, IsHeld}

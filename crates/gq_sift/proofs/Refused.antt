@@ -18,11 +18,13 @@ use Rattle.gq_plan.specs.declared.bound.NamedExpr.{NamedExpr}
 use Rattle.gq_store.specs.Neighbours.{neighbours, numbers}
 use Rattle.gq_store.specs.Places.{number_at}
 use Rattle.gq_store.proofs.Reading.{neighbours_below}
-use Rattle.gq_sift.specs.Among.{IsAmong}
+use Rattle.gq_chains.specs.Among.{IsAmong}
 use Rattle.gq_steps.specs.Tests.{test_of}
 use Rattle.gq_sift.specs.steps.Refused.{IsPlaceRefused, IsRefused}
-use Rattle.gq_sift.specs.steps.RowTests.{Extends}
-use Rattle.gq_sift.proofs.Judged.{IsGoingBy, can_follow, hop_going, judged, keep_of, next_going, next_missed}
+use Rattle.gq_chains.specs.steps.Extends.{Extends}
+use Rattle.gq_chains.proofs.Acted.{keep_of}
+use Rattle.gq_chains.proofs.Sifting.{judged}
+use Rattle.gq_sift.proofs.Judged.{IsGoingBy, can_follow, hop_going, next_going, next_missed}
 use Rattle.gq_steps.specs.Keeps.{IsRange, makes_one}
 use Rattle.gq_steps.specs.Levels.{Run, before, built_at, known, step_at}
 use Rattle.gq_steps.specs.Moves.{IsHeld, IsRun, IsTried}

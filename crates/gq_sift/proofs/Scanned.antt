@@ -15,7 +15,8 @@ use Rattle.gq_steps.specs.Tests.{test_of}
 use Rattle.gq_steps.specs.declared.group_steps.GroupSteps.{GroupSteps}
 use Rattle.gq_steps.specs.declared.plan_run.Tried.TheVariants.{Made}
 use Rattle.gq_steps.proofs.Going.{IsGoing, begins, ends, made_first, tried_made, tried_missed}
-use Rattle.gq_sift.proofs.Judged.{judged, keep_of}
+use Rattle.gq_chains.proofs.Acted.{keep_of}
+use Rattle.gq_chains.proofs.Sifting.{judged}
 use Rattle.gq_steps.proofs.Testing.{keep_tried}
 use Rattle.gq_steps.proofs.Trying.{scan_low, scan_tried}
 

@@ -15,11 +15,13 @@ use Rattle.gq_plan.specs.declared.assignment.Assignment.{Assignment}
 use Rattle.gq_store.specs.Neighbours.{neighbours, numbers}
 use Rattle.gq_store.specs.Places.{number_at}
 use Rattle.gq_store.proofs.Reading.{neighbours_below}
-use Rattle.gq_sift.specs.Among.{IsAmong}
+use Rattle.gq_chains.specs.Among.{IsAmong}
 use Rattle.gq_steps.specs.Tests.{test_of}
 use Rattle.gq_sift.specs.steps.Refused.{IsPassed, IsPlacePassed}
-use Rattle.gq_sift.specs.steps.RowTests.{Extends}
-use Rattle.gq_sift.proofs.Judged.{IsGoingBy, all_going, can_follow, hop_going, judged, keep_of, next_going}
+use Rattle.gq_chains.specs.steps.Extends.{Extends}
+use Rattle.gq_chains.proofs.Acted.{keep_of}
+use Rattle.gq_chains.proofs.Sifting.{judged}
+use Rattle.gq_sift.proofs.Judged.{IsGoingBy, all_going, can_follow, hop_going, next_going}
 use Rattle.gq_sift.proofs.Refused.{true_of}
 use Rattle.gq_steps.specs.Keeps.{IsRange, IsSifted, makes_one}
 use Rattle.gq_steps.specs.Levels.{Run, known, step_at}

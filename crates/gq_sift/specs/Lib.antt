@@ -1,4 +1,3 @@
-pub mod Among
 pub mod Remembered
 pub mod Tested
 pub mod steps

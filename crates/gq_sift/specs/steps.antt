@@ -1,11 +1,6 @@
-pub mod Blocks
 pub mod Candidates
-pub mod Chains
 pub mod Differing
-pub mod Ends
 pub mod Filters
-pub mod Judged
 pub mod Numbers
-pub mod Parting
 pub mod Refused
 pub mod RowTests

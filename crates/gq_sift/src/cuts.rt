@@ -4,10 +4,10 @@ ghost use Rattle.std.specs.Prelude.{◌≡◌, ◌+◌, ◌<◌, ◌≤◌, ℕ,
 ghost use Rattle.gq_steps.specs.Actions.{action_of};
 ghost use Rattle.gq_steps.specs.Levels.{step_at};
 ghost use Rattle.gq_steps.specs.Moves.{IsRun, run_of, steps_in};
-ghost use Rattle.gq_steps.specs.Tests.{GoesOn, IsCut, IsListTest, RowsDecide, test_of};
+ghost use Rattle.gq_steps.specs.Tests.{IsCut, IsListTest, RowsDecide, test_of};
 
-use crate::chain::goes_on;
-use crate::row_tests::{do_rows_decide, is_list_test, test_at};
+use crate::row_tests::{do_rows_decide, is_list_test};
+use gq_chains::{are_chained, test_at};
 use gq_plan::Follow;
 use gq_steps::{Action, Cut, PlanRun};
 
@@ -120,22 +120,6 @@ fn are_list_tests(plan_run: &PlanRun<'_>, first: usize, end: usize, follow: Foll
 {
     for depth in first + 1..end {
         if !is_list_test(plan_run, depth, follow) {
-            return false;
-        }
-    }
-    true
-}
-
-// Whether the steps behind the first one follow columns, or are tests that rows alone decide.
-fn are_chained(plan_run: &PlanRun<'_>, first: usize, end: usize) -> bool
-    requires run { IsRun (run_of plan_run.now) }
-    requires some { first < end }
-    requires inside { end ≤ length (steps_in plan_run.now) }
-    ensures { IsTrue result → (d : ℕ) → first < d → d < end →
-        GoesOn (run_of plan_run.now) first d }
-{
-    for depth in first + 1..end {
-        if !goes_on(plan_run, first, depth) {
             return false;
         }
     }

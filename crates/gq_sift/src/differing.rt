@@ -12,19 +12,9 @@ ghost use Rattle.gq_steps.specs.Follows.{CanFollow};
 
 use crate::finding::{ListPart, place_of_number};
 use gq_bits::{Marks, VECTOR};
+use gq_chains::{pair_at, rel_table};
 use gq_plan::{Assignment, Follow, RelPair};
-use gq_steps::{Action, PlanRun};
-
-/// The pair that the step at a depth asks to differ, if it asks for one.
-pub(crate) fn pair_at(plan_run: &PlanRun<'_>, depth: usize) -> Option<u32>
-    requires { depth < length (steps_in plan_run.now) }
-    ensures { result ≡ pair_of (step_at (run_of plan_run.now) depth) }
-{
-    match plan_run.action(depth) {
-        Action::Differ(pair) => Some(pair),
-        _ => None,
-    }
-}
+use gq_steps::PlanRun;
 
 /// Whether the step at a depth asks that a relationship variable differs from another one of
 /// the same table.
@@ -55,17 +45,6 @@ fn is_pair_with(plan_run: &PlanRun<'_>, pair: RelPair, rel: u32) -> bool
     match (rel_table(plan_run, other), rel_table(plan_run, rel)) {
         (Some(one), Some(two)) => one == two,
         _ => false,
-    }
-}
-
-/// The table of a relationship variable.
-pub(crate) fn rel_table(plan_run: &PlanRun<'_>, rel: u32) -> Option<u32>
-    ensures { IfSome result (λ table. (rel < length plan_run.now.typed.now.rels) × (rel_table
-        plan_run.now.typed.now rel ≡ table)) }
-{
-    match plan_run.typed.rels.get(rel as usize) {
-        None => None,
-        Some(typed) => Some(typed.table),
     }
 }
 

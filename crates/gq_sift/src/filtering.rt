@@ -11,11 +11,11 @@ ghost use Rattle.gq_steps.specs.Moves.{run_of, steps_in, IsRun, IsHeld};
 ghost use Rattle.gq_steps.specs.steps.Outcomes.{passes_at, with_row};
 ghost use Rattle.gq_steps.specs.Tests.{test_of};
 
-use crate::row_tests::test_at;
 use gq_bits::{Marks, VECTOR};
+use gq_chains::{scanned, test_at};
 use gq_filter::Rows;
 use gq_plan::Assignment;
-use gq_steps::{Action, Cut, GroupSteps, PlanRun};
+use gq_steps::{Cut, GroupSteps, PlanRun};
 
 /// The node variable that a group scans, where its other steps are conditions.
 pub(crate) fn filters(group: GroupSteps) -> Option<u32>
@@ -23,16 +23,6 @@ pub(crate) fn filters(group: GroupSteps) -> Option<u32>
 {
     match group.cut {
         Cut::Rows => scanned(group.action),
-        _ => None,
-    }
-}
-
-/// The node variable that is scanned, if one is.
-pub(crate) fn scanned(action: Action) -> Option<u32>
-    ensures { IfSome result (λ node. action ≡ Action.Scan node) }
-{
-    match action {
-        Action::Scan(node) => Some(node),
         _ => None,
     }
 }

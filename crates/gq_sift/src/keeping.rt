@@ -1,20 +1,20 @@
 //! The places of a piece of a group's list that all its steps keep.
 ghost use Rattle.std.specs.Prelude.{◌≡◌, ◌<◌, ◌≤◌, ◌+◌, ◌^◌, length};
-ghost use Rattle.gq_sift.specs.Among.{IsAmong};
+ghost use Rattle.gq_chains.specs.Among.{IsAmong};
 ghost use Rattle.gq_steps.specs.Keeps.{IsRange, IsSifted};
 ghost use Rattle.gq_steps.specs.Levels.{before, built_at, known, step_at};
 ghost use Rattle.gq_steps.specs.Matches.{AreMatches};
 ghost use Rattle.gq_steps.specs.Moves.{run_of, IsRun, IsHeld};
 ghost use Rattle.gq_steps.specs.Tries.{tries};
 
-use crate::blocks::sift_chain;
-use crate::chain::{chain_of, judge_place};
 use crate::closing::candidates;
 use crate::filtering::{filter, filters};
 use crate::lists::{filter_list, filters_list};
+use crate::places::keep_place;
 use crate::refusing::refuse;
 use crate::telling::keep_told;
 use gq_bits::{Marks, VECTOR};
+use gq_chains::sift_chain;
 use gq_plan::Assignment;
 use gq_steps::{GroupSteps, PlanRun};
 
@@ -97,13 +97,12 @@ pub fn sift_among(
     requires among { IsAmong (run_of plan_run.now) group first count row.old marks.old }
     ensures { IsSifted (run_of plan_run.now) group first count row.old row.new marks.new }
 {
-    let chain = chain_of(group);
-    if sift_chain(plan_run, group, chain, first, count, row, marks) {
+    if sift_chain(plan_run, group, first, count, row, marks) {
         return;
     }
     let mut place = 0;
     'places: while let Some(offset) = marks.next_from(place) {
-        if !judge_place(plan_run, group, chain, matches, first + offset, row) {
+        if !keep_place(plan_run, group, matches, first + offset, row) {
             marks.set(offset, false);
         }
         place = offset + 1;

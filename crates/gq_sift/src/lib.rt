@@ -1,15 +1,11 @@
 //! The places of a piece of a group's list that all steps of the group keep: whole pieces at once
-//! where rows or relationships decide its tests, and else one place after another. The crate
-//! stands on the steps of `gq_steps` and the marks of `gq_bits`.
+//! where rows or relationships decide its tests, as `gq_chains` says where it is a chain, and else
+//! one place after another. The crate stands on the steps of `gq_steps` and the marks of `gq_bits`.
 #![tactic(auto)]
 
-mod block_steps;
-mod blocks;
-mod chain;
 mod closing;
 mod cuts;
 mod differing;
-mod ends;
 mod filtering;
 mod finding;
 mod keeping;

@@ -17,10 +17,11 @@ ghost use Rattle.gq_steps.specs.Moves.{run_of, steps_in, IsRun, IsHeld};
 ghost use Rattle.gq_steps.specs.steps.Outcomes.{passes_at, with_row};
 ghost use Rattle.gq_steps.specs.Follows.{CanFollow};
 
-use crate::differing::{drop_number, other_of, pair_at};
+use crate::differing::{drop_number, other_of};
 use crate::filtering::keep_test;
 use crate::looping::drop_row;
 use gq_bits::{Marks, VECTOR};
+use gq_chains::pair_at;
 use gq_filter::Rows;
 use gq_plan::{Assignment, Follow};
 use gq_steps::{Action, Cut, GroupSteps, PlanRun};

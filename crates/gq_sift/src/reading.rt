@@ -9,7 +9,7 @@ ghost use Rattle.gq_steps.specs.Tests.{test_of};
 ghost use Rattle.gq_steps.specs.Levels.{step_at};
 ghost use Rattle.gq_steps.specs.Moves.{run_of, steps_in};
 
-use crate::row_tests::test_at;
+use gq_chains::test_at;
 use gq_join::Sealed;
 use gq_plan::{Follow, Known, Step};
 use gq_steps::{GroupSteps, PlanRun};

@@ -3,9 +3,9 @@
 ghost use Rattle.std.specs.Prelude.{◌≡◌, ◌+◌, ◌<◌, ◌≤◌, ◌^◌, ℕ, length, false, true, slice_index, IfSome};
 ghost use Rattle.gq_bits.specs.Places.{is_marked};
 ghost use Rattle.gq_plan.specs.Rows.{rel_table};
-ghost use Rattle.gq_sift.specs.Among.{IsAmong};
+ghost use Rattle.gq_chains.specs.Among.{IsAmong};
 ghost use Rattle.gq_sift.specs.steps.Refused.{IsPlaceRefused, IsRefused};
-ghost use Rattle.gq_sift.specs.steps.RowTests.{Extends, Leads};
+ghost use Rattle.gq_chains.specs.steps.Extends.{Extends, Leads};
 ghost use Rattle.gq_steps.specs.Follows.{CanFollow};
 ghost use Rattle.gq_steps.specs.Keeps.{IsRange};
 ghost use Rattle.gq_steps.specs.Levels.{before, built_at, known, step_at};
@@ -14,8 +14,8 @@ ghost use Rattle.gq_steps.specs.Tries.{tries};
 ghost use Rattle.gq_store.specs.Neighbours.{near_rows, neighbours};
 
 use crate::finding::ListPart;
-use crate::row_tests::{extended, test_at};
 use gq_bits::{Marks, VECTOR};
+use gq_chains::{extended, test_at};
 use gq_filter::PlacedTest;
 use gq_plan::{Assignment, Follow};
 use gq_steps::{Cut, GroupSteps, PlanRun};

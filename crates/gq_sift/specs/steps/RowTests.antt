@@ -1,20 +1,10 @@
 -- Groups whose tests rows alone decide, or the relationship that they follow.
-use Rattle.std.specs.Prelude.{◌≡◌, ◌⊎◌, ℕ, ◌<◌, Bool}
-use Rattle.gq_plan.specs.Plans.{Extend}
+use Rattle.std.specs.Prelude.{ℕ, ◌<◌}
+use Rattle.gq_chains.specs.steps.Extends.{Extends}
 use Rattle.gq_steps.specs.Tests.{IsListTest}
-use Rattle.gq_steps.specs.Levels.{Run, step_at}
-use Rattle.gq_steps.specs.declared.action.Action.{Action}
-use Rattle.gq_steps.specs.declared.action.Action.TheVariants as act
+use Rattle.gq_steps.specs.Levels.{Run}
 use Rattle.gq_steps.specs.declared.group_steps.GroupSteps.{GroupSteps}
 use Rattle.gq_plan.specs.declared.follow.Follow.{Follow}
-
--- the step at a depth follows a relationship so to a node that was not bound
-abbrev pub Extends : Run → ℕ → Follow → Type 0
-Extends c d f = (column : Bool) × (step_at c d ≡ Extend column f.rel f.from f.to f.direction)
-
--- what is done follows a relationship so
-abbrev pub Leads : Action → Follow → Type 0
-Leads a f = (a ≡ act.List f) ⊎ (a ≡ act.Column f)
 
 -- a group follows a relationship to a node that was not bound, and rows alone or its load numbers decide its other steps
 pub record ReadsRows (c : Run) (group : GroupSteps) (f : Follow) : Type 0 where

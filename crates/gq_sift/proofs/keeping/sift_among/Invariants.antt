@@ -1,6 +1,6 @@
 use Rattle.std.proofs.Common.{◌-◌}
 use Rattle.gq_steps.specs.Moves.{run_of}
-use Rattle.gq_sift.proofs.Sifting.{IsSifting}
+use Rattle.gq_chains.proofs.Sifting.{IsSifting}
 use Rattle.gq_sift.proofs.keeping.sift_among.Given as goal
 
 abbrev pub invariant-places : goal.invariant-places

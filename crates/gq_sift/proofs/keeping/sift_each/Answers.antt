@@ -1,5 +1,5 @@
 use Rattle.gq_steps.specs.Moves.{run_of}
-use Rattle.gq_sift.proofs.Sifting.{among_candidates}
+use Rattle.gq_sift.proofs.Candidates.{among_candidates}
 use Rattle.gq_sift.proofs.keeping.sift_each.Goals as goal
 
 pub refuse-requires-clause-among : goal.refuse-requires-clause-among

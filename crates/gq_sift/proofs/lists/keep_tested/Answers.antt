@@ -8,7 +8,8 @@ use Rattle.gq_steps.specs.Tests.{loop_of, pair_of, test_of}
 use Rattle.gq_steps.specs.declared.action.Action.TheVariants as act
 use Rattle.gq_steps.specs.steps.Outcomes.{passes_at, with_row}
 use Rattle.gq_steps.proofs.Acting.{acts}
-use Rattle.gq_sift.proofs.Judged.{no_loop, no_test}
+use Rattle.gq_chains.proofs.Acted.{no_test}
+use Rattle.gq_sift.proofs.Judged.{no_loop}
 use Rattle.gq_sift.proofs.lists.keep_tested.Goals as goal
 use Rattle.gq_sift.proofs.lists.keep_tested.Goals.{In-Test, In-NoLoop}
 

@@ -1,6 +1,6 @@
 use Rattle.std.proofs.Common.{arith}
 use Rattle.gq_steps.specs.Moves.{run_of}
-use Rattle.gq_sift.proofs.Judged.{extends_by}
+use Rattle.gq_chains.proofs.Acted.{extends_by}
 use Rattle.gq_sift.proofs.Refused.{extends_count}
 use Rattle.gq_sift.proofs.refusing.refuse.Goals as goal
 

@@ -1,7 +1,7 @@
 use Rattle.std.proofs.Common.{◌≡◌, ◌<◌, ℕ, Some}
 use Rattle.gq_steps.specs.Levels.{step_at}
 use Rattle.gq_steps.specs.Moves.{run_of}
-use Rattle.gq_sift.specs.Among.{IsAmong}
+use Rattle.gq_chains.specs.Among.{IsAmong}
 use Rattle.gq_steps.specs.Tests.{test_of}
 use Rattle.gq_sift.proofs.refusing.refuse_list.Given as goal
 

@@ -1,7 +1,7 @@
 use Rattle.std.proofs.Common.{arith}
 use Rattle.gq_steps.specs.Moves.{run_of}
 use Rattle.gq_sift.proofs.Cutting.{range_told, some_told}
-use Rattle.gq_sift.proofs.Judged.{extends_by}
+use Rattle.gq_chains.proofs.Acted.{extends_by}
 use Rattle.gq_sift.proofs.Refused.{extends_count}
 use Rattle.gq_sift.proofs.telling.keep_told.Goals as goal
 

@@ -5,7 +5,7 @@ use Rattle.gq_steps.proofs.Trying.{as_many_steps}
 use Rattle.gq_steps.specs.Tests.{test_of}
 use Rattle.gq_sift.proofs.Judged.{can_follow}
 use Rattle.gq_sift.proofs.Refused.{among_left}
-use Rattle.gq_sift.proofs.Sifting.{among_candidates}
+use Rattle.gq_sift.proofs.Candidates.{among_candidates}
 use Rattle.gq_sift.proofs.Told.{told_next, told_sifted}
 use Rattle.gq_sift.proofs.telling.tell_list.Goals as goal
 use Rattle.gq_sift.proofs.telling.tell_list.Goals.{In-loop-depth}

@@ -1,5 +1,5 @@
 use Rattle.gq_steps.specs.Moves.{run_of}
-use Rattle.gq_sift.specs.Among.{IsAmong}
+use Rattle.gq_chains.specs.Among.{IsAmong}
 use Rattle.gq_sift.proofs.Told.{AreTold}
 use Rattle.gq_sift.proofs.telling.tell_list.Given as goal
 

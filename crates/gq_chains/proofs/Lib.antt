@@ -1,0 +1,12 @@
+pub mod Apart
+pub mod Acted
+pub mod Begun
+pub mod Blocked
+pub mod Ended
+pub mod Extending
+pub mod First
+pub mod Reached
+pub mod Sifting
+pub mod Sourced
+pub mod Standing
+pub mod Walking

@@ -1,7 +1,0 @@
-use Rattle.std.proofs.Common.{subst}
-use Rattle.gq_sift.specs.steps.Chains.{IsChain}
-use Rattle.gq_steps.specs.Moves.{run_of}
-use Rattle.gq_sift.proofs.blocks.sift_begun.Goals as goal
-
-pub sift_blocks-requires-clause-chain : goal.sift_blocks-requires-clause-chain
-sift_blocks-requires-clause-chain c = subst (IsChain (run_of c.args.plan_run.now) c.args.group) c.in-Rows.is c.requires.chain
