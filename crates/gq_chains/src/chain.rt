@@ -1,5 +1,5 @@
 //! Groups that follow a chain of columns by rows alone: no load number is looked for on the way.
-ghost use Rattle.std.specs.Prelude.{◌≡◌, ◌<◌, ℕ, IfSome, Some, length, true};
+ghost use Rattle.std.specs.Prelude.{◌≡◌, ◌<◌, ◌≤◌, ℕ, IfSome, IsTrue, Some, length, true};
 ghost use Rattle.std.specs.Prelude.{slice_get};
 ghost use Rattle.gq_steps.specs.Tests.{GoesOn, follow_of, pair_of, test_of};
 ghost use Rattle.gq_chains.specs.declared.chain.Beginning.TheVariants as Begin;

@@ -30,6 +30,13 @@ module _ (start : ℕ → Bool) (keeps : ℕ → ℕ → Bool) (low : ℕ) where
   pub kept_to : (d high : ℕ) (marks : List Bool) → d ≤ high → high ≤ d → AreKept start keeps low d marks → AreKept start keeps low high marks
   kept_to d high marks under over k = let same : d ≡ high = omega (arith, under, over) in subst (λ n. AreKept start keeps low n marks) same k
 
+  -- nor do those up to another one drop any, where they keep all places to start with
+  pub kept_more : (d high : ℕ) (marks all : List Bool) → d ≤ high → AreKept start keeps low d marks → AreKept start keeps low high all → ((j : ℕ) → start j ≡ true → is_marked all j ≡ true) → AreKept start keeps low high marks
+  kept_more d high marks all below k a still = record {
+    on = λ j m. (let was = (k.on j m).0 in (was, (a.on j (still j was)).1));
+    off = λ j s each. k.off j s (λ e over under. each e over (omega (arith, under, below)));
+  }
+
   -- none but the places to start with
   pub kept_within : (d : ℕ) (marks : List Bool) → AreKept start keeps low d marks → (j : ℕ) → start j ≡ false → is_marked marks j ≡ false
   kept_within d marks k j out = off (is_marked marks j) refl

@@ -6,21 +6,20 @@ use Rattle.std.proofs.lemmas.Bool.{cases_eq, true≢false}
 use Rattle.std.proofs.lemmas.List.{get_or-set_other, get_or-set_same, length-set}
 use Rattle.std.proofs.lemmas.Option.{slice_get-get_or, slice_get-map}
 use Rattle.gq_base.specs.Plain.{Graph}
-use Rattle.gq_base.specs.declared.direction.Direction.{Direction}
 use Rattle.gq_bits.specs.Places.{is_marked}
 use Rattle.gq_bits.specs.declared.TheConstants.{VECTOR}
-use Rattle.gq_filter.specs.Placed.{IsPlacedTest, Refuses}
 use Rattle.gq_filter.specs.RowTests.{RowCondition, condition_over, is_true_of}
-use Rattle.gq_filter.specs.declared.placed.PlacedTest.{PlacedTest}
 use Rattle.gq_plan.specs.Rows.{rel_table}
 use Rattle.gq_plan.specs.declared.assignment.Assignment.{Assignment}
 use Rattle.gq_plan.specs.declared.bound.NamedExpr.{NamedExpr}
-use Rattle.gq_store.specs.Neighbours.{neighbours, numbers}
+use Rattle.gq_store.specs.Neighbours.{neighbours}
 use Rattle.gq_store.specs.Places.{number_at}
 use Rattle.gq_store.proofs.Reading.{neighbours_below}
 use Rattle.gq_chains.specs.Among.{IsAmong}
 use Rattle.gq_steps.specs.Tests.{test_of}
-use Rattle.gq_sift.specs.steps.Refused.{IsPlaceRefused, IsRefused}
+use Rattle.gq_sift.specs.declared.finding.ListPart.{ListPart}
+use Rattle.gq_sift.specs.steps.EdgeTests.{IsTestedAs, StandsWhere}
+use Rattle.gq_sift.specs.steps.Parts.{AreIn, Drops, numbers_of, part_from}
 use Rattle.gq_chains.specs.steps.Extends.{Extends}
 use Rattle.gq_chains.proofs.Acted.{keep_of}
 use Rattle.gq_chains.proofs.Sifting.{judged}
@@ -50,15 +49,6 @@ true_of c run i t there a = at (slice_get c.typed.tests i) refl
         let same : condition_over c.graph c.typed condition ≡ t = cc (ap (option_map (condition_over c.graph c.typed)) (sym is) ∙ found) in
         ap (λ s. is_true_of s a) (sym same) ∙ rw is refl
 
--- where a place is refused, the test is not true with the load number there
-pub refused_at : (c : Run) → IsRun c → (f : Follow) (row : Assignment) (i : ℕ) (t : RowCondition) → slice_get c.tests i ≡ Some t → (p : PlacedTest) → t.graph ≡ c.graph → t.typed ≡ c.typed → IsPlacedTest t f.rel p
-    → (place : ℕ) → IsPlaceRefused c.graph (rel_table c.typed f.rel) f.direction (slice_index row.nodes f.from) p place → IsRefused c f row i place
-refused_at c run f row i t there p graph typed placed place r = record {
-  number = r.number;
-  there = r.there;
-  fails = λ a has. sym (true_of c run i t there a) ∙ placed r.edge r.number a (rw (graph, typed) r.stands) has r.refused;
-}
-
 pub of_run : (c : Run) → IsRun c → (i : ℕ) (t : RowCondition) → slice_get c.tests i ≡ Some t → (t.graph ≡ c.graph) × (t.typed ≡ c.typed)
 of_run c run i t there = at (slice_get c.typed.tests i) refl
   where
@@ -71,20 +61,33 @@ of_run c run i t there = at (slice_get c.typed.tests i) refl
         let same : condition_over c.graph c.typed condition ≡ t = cc (ap (option_map (condition_over c.graph c.typed)) (sym is) ∙ found) in
         (sym (ap (λ (s : RowCondition). s.graph) same), sym (ap (λ (s : RowCondition). s.typed) same))
 
+-- what places tell of a test is so with the load numbers of the relationships there
+pub tested_as : (c : Run) → IsRun c → (x : ℕ) (p : ListPart) → rel_table c.typed x ≡ p.table → (i : ℕ) (t : RowCondition) → slice_get c.tests i ≡ Some t → (is : ℕ → Type 0) (told : Bool)
+    → ((edge number : ℕ) (row : Assignment) → number_at t.graph (rel_table t.typed x) edge ≡ Some number → slice_get row.rels x ≡ Some number → is edge → is_true_of t row ≡ told)
+    → (place : ℕ) → StandsWhere c.graph p is place → IsTestedAs c x p i told place
+tested_as c run x p table i t there is told tells place r =
+    let of = of_run c run i t there in
+    let stands : number_at t.graph (rel_table t.typed x) r.edge ≡ Some r.number = rw (of.0, of.1, table) r.stands in
+    record {
+      number = r.number;
+      there = r.there;
+      says = λ a has. sym (true_of c run i t there a) ∙ tells r.edge r.number a stands has r.holds;
+    }
+
+-- the load number that is put in
+pub put_number : (x number : ℕ) (row : Assignment) → x < length row.rels → slice_get (with_number x number row).rels x ≡ Some number
+put_number x number row low =
+    let long : x < length (slice_set row.rels x number) = (let same = length-set row.rels x number in omega (arith, low, same)) in
+    slice_get-get_or (slice_set row.rels x number) x 0 long ∙ ap Some (get_or-set_same row.rels x number 0 low)
+
 -- ---- a place at which a test is not true
 
-module _ (c : Run) (run : IsRun c) (group : GroupSteps) (range : IsRange c group) (place : ℕ) (old : Assignment) (held : IsHeld c old (known c group.first)) (f : Follow) (ext : Extends c group.first f) where
+module _ (c : Run) (run : IsRun c) (group : GroupSteps) (range : IsRange c group) (place : ℕ) (old : Assignment) (held : IsHeld c old (known c group.first)) (f : Follow) (ext : Extends c group.first f) (first count : ℕ) where
   abbrev list : List ℕ
   list = neighbours c.graph (rel_table c.typed f.rel) f.direction (slice_index old.nodes f.from)
 
-  -- the load number that is put in
-  put_number : (number : ℕ) (row : Assignment) → f.rel < length row.rels → slice_get (with_number f.rel number row).rels f.rel ≡ Some number
-  put_number number row low =
-      let long : f.rel < length (slice_set row.rels f.rel number) = (let same = length-set row.rels f.rel number in omega (arith, low, same)) in
-      slice_get-get_or (slice_set row.rels f.rel number) f.rel 0 long ∙ ap Some (get_or-set_same row.rels f.rel number 0 low)
-
   module _ (row : Assignment) (low : f.rel < length row.rels) (last test : ℕ) (inside : last < group.end) (is : test_of (step_at c last) ≡ Some test)
-      (tests : (e : ℕ) → group.first < e → e < last → (i : ℕ) × (test_of (step_at c e) ≡ Some i)) (r : IsRefused c f old test place) where
+      (tests : (e : ℕ) → group.first < e → e < last → (i : ℕ) × (test_of (step_at c e) ≡ Some i)) (r : IsTestedAs c f.rel (part_from c f old first count) test false place) where
     -- a test is tried
     tried_as : (d : ℕ) (above : group.first < d) (below : d < group.end) (g : IsGoingBy c group place old f d row) (i : ℕ) → test_of (step_at c d) ≡ Some i → (told : Bool) → passes_at c.graph c.typed (with_number f.rel g.number row) i ≡ told
         → IsTried c d 0 (with_number f.rel g.number row) (with_number f.rel g.number row) (tested 0 told)
@@ -99,7 +102,7 @@ module _ (c : Run) (run : IsRun c) (group : GroupSteps) (range : IsRange c group
 
     -- the last one is not true
     fails : (d : ℕ) (g : IsGoingBy c group place old f d row) → passes_at c.graph c.typed (with_number f.rel g.number row) test ≡ false
-    fails d g = let same : g.number ≡ r.number = cc (r.there, g.numbered) in r.fails (with_number f.rel g.number row) (put_number g.number row low ∙ ap Some same)
+    fails d g = let same : g.number ≡ r.number = cc (r.there, g.numbered) in r.says (with_number f.rel g.number row) (put_number f.rel g.number row low ∙ ap Some same)
 
     -- by one more test
     from_at : (d : ℕ) (above : group.first < d) (below : d < group.end) (g : IsGoingBy c group place old f d row) (i : ℕ) → test_of (step_at c d) ≡ Some i → (told : Bool) → passes_at c.graph c.typed (with_number f.rel g.number row) i ≡ told
@@ -116,7 +119,7 @@ module _ (c : Run) (run : IsRun c) (group : GroupSteps) (range : IsRange c group
         from_at d above (omega (arith, all, inside)) g t.0 t.1 (passes_at c.graph c.typed (with_number f.rel g.number row) t.0) refl (from n (d + 1) (omega (arith, all)) (omega (arith, above)))
 
   pub none_made : place < length list → place + 1 < 2 ^ 32 → (last test : ℕ) → group.first < last → last < group.end → test_of (step_at c last) ≡ Some test
-      → ((e : ℕ) → group.first < e → e < last → (i : ℕ) × (test_of (step_at c e) ≡ Some i)) → IsRefused c f old test place → makes_one c group place old ≡ false
+      → ((e : ℕ) → group.first < e → e < last → (i : ℕ) × (test_of (step_at c e) ≡ Some i)) → IsTestedAs c f.rel (part_from c f old first count) test false place → makes_one c group place old ≡ false
   none_made there few last test above inside is tests r =
       let can = can_follow c run group range place old held f ext in
       let ends = neighbours_below c.graph (rel_table c.typed f.rel) (slice_index old.nodes f.from) f.direction run.valid can.table in
@@ -127,41 +130,43 @@ module _ (c : Run) (run : IsRun c) (group : GroupSteps) (range : IsRange c group
       let low : f.rel < length old.rels = omega (arith, can.rel, held.rel_count) in
       from put low last test inside is tests r (last - (group.first + 1)) (group.first + 1) (omega (arith, above)) (omega arith) g
 
-  -- where the list is followed, it has as many places as the step
-  pub extends_count : length (tries c.graph c.typed (built_at c group.first) (step_at c group.first) (before c old group.first)) ≡ length list
-  extends_count = let some = range.some in let end = range.inside in extend_count c run group.first (omega (arith, some, end)) old held ext.0 f.rel f.from f.to f.direction ext.1
+-- where the list is followed, it has as many places as the step
+pub extends_count : (c : Run) → IsRun c → (group : GroupSteps) → IsRange c group → (old : Assignment) → IsHeld c old (known c group.first) → (f : Follow) → Extends c group.first f
+    → length (tries c.graph c.typed (built_at c group.first) (step_at c group.first) (before c old group.first)) ≡ length (neighbours c.graph (rel_table c.typed f.rel) f.direction (slice_index old.nodes f.from))
+extends_count c run group range old held f ext = let some = range.some in let end = range.inside in extend_count c run group.first (omega (arith, some, end)) old held ext.0 f.rel f.from f.to f.direction ext.1
 
 -- ---- marks of places among which are all that the steps keep
 
 module _ (c : Run) (run : IsRun c) (group : GroupSteps) (range : IsRange c group) (old : Assignment) (held : IsHeld c old (known c group.first)) (f : Follow) (ext : Extends c group.first f)
     (first count : ℕ) (fits : first + count < 2 ^ 32) (inside : first + count ≤ length (neighbours c.graph (rel_table c.typed f.rel) f.direction (slice_index old.nodes f.from))) (d test : ℕ) (above : group.first < d) (below : d < group.end)
     (is : test_of (step_at c d) ≡ Some test) (tests : (e : ℕ) → group.first < e → e < d → (i : ℕ) × (test_of (step_at c e) ≡ Some i)) where
-  pub among_left : (marks : List Bool) → IsAmong c group first count old marks → (new : List Bool) → length new ≡ VECTOR → ((j : ℕ) → is_marked new j ≡ true → is_marked marks j ≡ true)
-      → ((j : ℕ) → is_marked marks j ≡ true → is_marked new j ≡ false → IsRefused c f old test (first + j)) → IsAmong c group first count old new
-  among_left marks among new long kept dropped = record {
-    len = long;
-    below = λ j on. among.below j (kept j on);
+  pub among_left : (marks : List Bool) → IsAmong c group first count old marks → (new : List Bool) → Drops (λ j. IsTestedAs c f.rel (part_from c f old first count) test false (first + j)) marks new → IsAmong c group first count old new
+  among_left marks among new drops = record {
+    len = drops.long;
+    below = λ j on. among.below j (drops.kept j on);
     others = λ j low off. at j low off (is_marked marks j) refl;
   }
     where
       at : (j : ℕ) → j < count → is_marked new j ≡ false → (b : Bool) → is_marked marks j ≡ b → makes_one c group (first + j) old ≡ false
       at j low off false was = among.others j low was
       at j low off true was =
-          let r = dropped j was off in
-          none_made c run group range (first + j) old held f ext (omega (arith, low, inside)) (omega (arith, low, fits)) d test above below is tests r
+          let r = drops.dropped j was off in
+          none_made c run group range (first + j) old held f ext first count (omega (arith, low, inside)) (omega (arith, low, fits)) d test above below is tests r
 
--- places that are dropped one after another, each where the test refuses it
-pub record IsDropping (g : Graph) (table : ℕ) (direction : Direction) (row : ℕ) (t : PlacedTest) (first : ℕ) (before marks : List Bool) : Type 0 where
-  pub long : length marks ≡ VECTOR
-  pub kept : (j : ℕ) → is_marked marks j ≡ true → is_marked before j ≡ true
-  pub dropped : (j : ℕ) → is_marked before j ≡ true → is_marked marks j ≡ false → IsPlaceRefused g table direction row t (first + j)
+-- marked places among so many from one on are places of the part
+pub in_part : (c : Run) (group : GroupSteps) (f : Follow) (row : Assignment) (first count : ℕ) → count ≤ VECTOR → (marks : List Bool) → IsAmong c group first count row marks → AreIn (part_from c f row first count) marks
+in_part c group f row first count few marks among = record {
+  long = among.len;
+  below = λ j on. (let low = among.below j on in (omega (arith, low, few), omega (arith, low)));
+}
 
-module _ (g : Graph) (table : ℕ) (direction : Direction) (row : ℕ) (t : PlacedTest) (first : ℕ) (before : List Bool) where
-  pub dropping_from : length before ≡ VECTOR → IsDropping g table direction row t first before before
-  dropping_from long = record { long = long; kept = λ j on. on; dropped = λ j on off. absurd (true≢false (sym on ∙ off)) }
+-- places that are dropped one after another
+module _ (is : ℕ → Type 0) (before : List Bool) where
+  pub drops_from : length before ≡ VECTOR → Drops is before before
+  drops_from long = record { long = long; kept = λ j on. on; dropped = λ j on off. absurd (true≢false (sym on ∙ off)) }
 
-  pub dropping_one : (n : ℕ) (marks : List Bool) → IsDropping g table direction row t first before marks → n < VECTOR → IsPlaceRefused g table direction row t (first + n) → IsDropping g table direction row t first before (slice_set marks n false)
-  dropping_one n marks s low r = record {
+  pub drops_one : (n : ℕ) (marks : List Bool) → Drops is before marks → n < VECTOR → is n → Drops is before (slice_set marks n false)
+  drops_one n marks s low r = record {
     long = length-set marks n false ∙ s.long;
     kept = λ j on. kept_at j on (cases_eq j n);
     dropped = λ j on off. dropped_at j on off (cases_eq j n);
@@ -174,15 +179,14 @@ module _ (g : Graph) (table : ℕ) (direction : Direction) (row : ℕ) (t : Plac
       kept_at j on (inl same) = absurd (true≢false (sym on ∙ ap (is_marked (slice_set marks n false)) same ∙ here))
       kept_at j on (inr other) = s.kept j (sym (get_or-set_other marks n j false false other) ∙ on)
 
-      dropped_at : (j : ℕ) → is_marked before j ≡ true → is_marked (slice_set marks n false) j ≡ false → (j ≡ n) ⊎ (j ≡ n → ⊥) → IsPlaceRefused g table direction row t (first + j)
-      dropped_at j on off (inl same) = subst (λ i. IsPlaceRefused g table direction row t (first + i)) (sym same) r
+      dropped_at : (j : ℕ) → is_marked before j ≡ true → is_marked (slice_set marks n false) j ≡ false → (j ≡ n) ⊎ (j ≡ n → ⊥) → is j
+      dropped_at j on off (inl same) = subst is (sym same) r
       dropped_at j on off (inr other) = s.dropped j on (sym (get_or-set_other marks n j false false other) ∙ off)
 
 -- the relationship at a place has a load number
-pub place_refused : (g : Graph) (table : ℕ) (direction : Direction) (row : ℕ) (t : PlacedTest) (place edge : ℕ) → number_at g table edge ≢ None → number_at g table edge ≡ slice_get (numbers g table direction row) place
-    → Refuses t edge → IsPlaceRefused g table direction row t place
-place_refused g table direction row t place edge there number refused = at (number_at g table edge) refl
+pub stands_where : (g : Graph) (p : ListPart) (is : ℕ → Type 0) (place edge : ℕ) → number_at g p.table edge ≢ None → number_at g p.table edge ≡ slice_get (numbers_of g p) place → is edge → StandsWhere g p is place
+stands_where g p is place edge there number so = at (number_at g p.table edge) refl
   where
-    at : (o : Option ℕ) → number_at g table edge ≡ o → IsPlaceRefused g table direction row t place
-    at None is = absurd (there is)
-    at (Some n) is = record { number = n; there = sym number ∙ is; edge = edge; stands = is; refused = refused }
+    at : (o : Option ℕ) → number_at g p.table edge ≡ o → StandsWhere g p is place
+    at None none = absurd (there none)
+    at (Some n) some = record { number = n; there = sym number ∙ some; edge = edge; stands = some; holds = so }

@@ -4,25 +4,20 @@ use Rattle.std.specs.Prelude.{slice_get, slice_index, slice_set}
 use Rattle.std.proofs.lemmas.Bool.{cases_eq, cases_lt, le-ltb, lt-ltb, true≢false}
 use Rattle.std.proofs.lemmas.List.{get_or-set_other, get_or-set_same, length-set}
 use Rattle.std.proofs.lemmas.Option.{slice_get-get_or}
-use Rattle.gq_base.specs.Plain.{Graph}
-use Rattle.gq_base.specs.declared.direction.Direction.{Direction}
 use Rattle.gq_bits.specs.Places.{is_marked}
-use Rattle.gq_filter.specs.Placed.{IsPassingTest, Passes}
-use Rattle.gq_filter.specs.RowTests.{RowCondition}
-use Rattle.gq_filter.specs.declared.placed.PlacedTest.{PlacedTest}
 use Rattle.gq_plan.specs.Rows.{rel_table}
 use Rattle.gq_plan.specs.declared.assignment.Assignment.{Assignment}
-use Rattle.gq_store.specs.Neighbours.{neighbours, numbers}
-use Rattle.gq_store.specs.Places.{number_at}
+use Rattle.gq_store.specs.Neighbours.{neighbours}
 use Rattle.gq_store.proofs.Reading.{neighbours_below}
 use Rattle.gq_chains.specs.Among.{IsAmong}
 use Rattle.gq_steps.specs.Tests.{test_of}
-use Rattle.gq_sift.specs.steps.Refused.{IsPassed, IsPlacePassed}
+use Rattle.gq_sift.specs.steps.EdgeTests.{IsTestedAs}
+use Rattle.gq_sift.specs.steps.Parts.{part_from}
 use Rattle.gq_chains.specs.steps.Extends.{Extends}
 use Rattle.gq_chains.proofs.Acted.{keep_of}
 use Rattle.gq_chains.proofs.Sifting.{judged}
 use Rattle.gq_sift.proofs.Judged.{IsGoingBy, all_going, can_follow, hop_going, next_going}
-use Rattle.gq_sift.proofs.Refused.{true_of}
+use Rattle.gq_sift.proofs.Refused.{put_number}
 use Rattle.gq_steps.specs.Keeps.{IsRange, IsSifted, makes_one}
 use Rattle.gq_steps.specs.Levels.{Run, known, step_at}
 use Rattle.gq_steps.specs.Moves.{IsHeld, IsRun, IsTried}
@@ -32,74 +27,51 @@ use Rattle.gq_plan.specs.declared.follow.Follow.{Follow}
 use Rattle.gq_steps.specs.steps.Outcomes.{passes_at, tested, with_number, with_row}
 use Rattle.gq_steps.proofs.Testing.{keep_tried}
 
--- ---- places of a list
+-- ---- marked places
 
--- the relationship at a place has a load number
-pub place_passed : (g : Graph) (table : ℕ) (direction : Direction) (row : ℕ) (t : PlacedTest) (place edge : ℕ) → number_at g table edge ≢ None → number_at g table edge ≡ slice_get (numbers g table direction row) place
-    → Passes t edge → IsPlacePassed g table direction row t place
-place_passed g table direction row t place edge there number passes = at (number_at g table edge) refl
-  where
-    at : (o : Option ℕ) → number_at g table edge ≡ o → IsPlacePassed g table direction row t place
-    at None is = absurd (there is)
-    at (Some n) is = record { number = n; there = sym number ∙ is; edge = edge; stands = is; passed = passes }
+-- something is true of the marked places before one
+abbrev pub AllMarked : (ℕ → Type 0) → ℕ → List Bool → Type 0
+AllMarked is n marks = (j : ℕ) → j < n → is_marked marks j ≡ true → is j
 
--- where a place passes, the test is true with the load number there
-pub passed_at : (c : Run) → IsRun c → (f : Follow) (row : Assignment) (i : ℕ) (t : RowCondition) → slice_get c.tests i ≡ Some t → (p : PlacedTest) → t.graph ≡ c.graph → t.typed ≡ c.typed → IsPassingTest t f.rel p
-    → (place : ℕ) → IsPlacePassed c.graph (rel_table c.typed f.rel) f.direction (slice_index row.nodes f.from) p place → IsPassed c f row i place
-passed_at c run f row i t there p graph typed placed place r = record {
-  number = r.number;
-  there = r.there;
-  on = λ a has. sym (true_of c run i t there a) ∙ placed r.edge r.number a (rw (graph, typed) r.stands) has r.passed;
-}
-
-module _ (g : Graph) (table : ℕ) (direction : Direction) (row : ℕ) (t : PlacedTest) (first : ℕ) where
-  -- the marked places before one pass
-  abbrev pub ArePassed : ℕ → List Bool → Type 0
-  ArePassed n marks = (j : ℕ) → j < n → is_marked marks j ≡ true → IsPlacePassed g table direction row t (first + j)
-
-  pub passed_from : (marks : List Bool) → ArePassed 0 marks
-  passed_from marks j low on = absurd (omega (arith, low))
+module _ (is : ℕ → Type 0) where
+  pub marked_from : (marks : List Bool) → AllMarked is 0 marks
+  marked_from marks j low on = absurd (omega (arith, low))
 
   -- those up to another one are not marked
-  pub passed_up : (n m : ℕ) (marks : List Bool) → ArePassed n marks → ((j : ℕ) → n ≤ j → j < m → is_marked marks j ≡ false) → ArePassed m marks
-  passed_up n m marks are off j low on = elim (cases_lt j n) [
+  pub marked_up : (n m : ℕ) (marks : List Bool) → AllMarked is n marks → ((j : ℕ) → n ≤ j → j < m → is_marked marks j ≡ false) → AllMarked is m marks
+  marked_up n m marks are off j low on = elim (cases_lt j n) [
     | inl under ↦ are j under on
     | inr over ↦ absurd (true≢false (sym on ∙ off j over low))
   ]
 
-  pub passed_one : (n : ℕ) (marks : List Bool) → ArePassed n marks → IsPlacePassed g table direction row t (first + n) → ArePassed (n + 1) marks
-  passed_one n marks are one j low on = elim (cases_eq j n) [
-    | inl same ↦ subst (λ i. IsPlacePassed g table direction row t (first + i)) (sym same) one
+  pub marked_one : (n : ℕ) (marks : List Bool) → AllMarked is n marks → is n → AllMarked is (n + 1) marks
+  marked_one n marks are one j low on = elim (cases_eq j n) [
+    | inl same ↦ subst is (sym same) one
     | inr other ↦ are j (omega (arith, low, other)) on
   ]
 
-  pub passed_less : (n : ℕ) (marks : List Bool) → n < length marks → ArePassed n marks → ArePassed (n + 1) (slice_set marks n false)
-  passed_less n marks long are j low on = elim (cases_eq j n) [
+  pub marked_less : (n : ℕ) (marks : List Bool) → n < length marks → AllMarked is n marks → AllMarked is (n + 1) (slice_set marks n false)
+  marked_less n marks long are j low on = elim (cases_eq j n) [
     | inl same ↦ absurd (true≢false (sym on ∙ ap (is_marked (slice_set marks n false)) same ∙ get_or-set_same marks n false false long))
     | inr other ↦ are j (omega (arith, low, other)) (sym (get_or-set_other marks n j false false other) ∙ on)
   ]
 
 -- ---- a place of which all tests are true
 
-module _ (c : Run) (run : IsRun c) (group : GroupSteps) (range : IsRange c group) (place : ℕ) (old : Assignment) (held : IsHeld c old (known c group.first)) (f : Follow) (ext : Extends c group.first f) where
+module _ (c : Run) (run : IsRun c) (group : GroupSteps) (range : IsRange c group) (place : ℕ) (old : Assignment) (held : IsHeld c old (known c group.first)) (f : Follow) (ext : Extends c group.first f) (first count : ℕ) where
   abbrev list : List ℕ
   list = neighbours c.graph (rel_table c.typed f.rel) f.direction (slice_index old.nodes f.from)
 
   -- the step at a depth is a test that is true there
   abbrev pub PassesAt : ℕ → Type 0
-  PassesAt d = (i : ℕ) × (test_of (step_at c d) ≡ Some i) × IsPassed c f old i place
-
-  put_number : (number : ℕ) (row : Assignment) → f.rel < length row.rels → slice_get (with_number f.rel number row).rels f.rel ≡ Some number
-  put_number number row low =
-      let long : f.rel < length (slice_set row.rels f.rel number) = (let same = length-set row.rels f.rel number in omega (arith, low, same)) in
-      slice_get-get_or (slice_set row.rels f.rel number) f.rel 0 long ∙ ap Some (get_or-set_same row.rels f.rel number 0 low)
+  PassesAt d = (i : ℕ) × (test_of (step_at c d) ≡ Some i) × IsTestedAs c f.rel (part_from c f old first count) i true place
 
   module _ (row : Assignment) (low : f.rel < length row.rels) where
     passes_on : (d : ℕ) → group.first < d → d < group.end → PassesAt d → IsGoingBy c group place old f d row → IsGoingBy c group place old f (d + 1) row
     passes_on d above below t g =
         let end = range.inside in
         let same : g.number ≡ t.2.number = cc (t.2.there, g.numbered) in
-        let verdict : passes_at c.graph c.typed (with_number f.rel g.number row) t.0 ≡ true = t.2.on (with_number f.rel g.number row) (put_number g.number row low ∙ ap Some same) in
+        let verdict : passes_at c.graph c.typed (with_number f.rel g.number row) t.0 ≡ true = t.2.says (with_number f.rel g.number row) (put_number f.rel g.number row low ∙ ap Some same) in
         let tried : IsTried c d 0 (with_number f.rel g.number row) (with_number f.rel g.number row) (tested 0 true) =
         subst (λ b. IsTried c d 0 (with_number f.rel g.number row) (with_number f.rel g.number row) (tested 0 b)) verdict
         (keep_tried c run d (omega (arith, below, end)) (with_number f.rel g.number row) g.going.held t.0 (keep_of (step_at c d) t.0 t.1) 0) in
@@ -126,20 +98,21 @@ module _ (c : Run) (run : IsRun c) (group : GroupSteps) (range : IsRange c group
 
 -- ---- marks of places of which all tests are true
 
--- the steps before one are tests that are true at the marked places
-abbrev pub AreTold : Run → GroupSteps → Follow → ℕ → Assignment → ℕ → List Bool → Type 0
-AreTold c group f first row depth marks = (d : ℕ) → group.first < d → d < depth → (i : ℕ) × (test_of (step_at c d) ≡ Some i) × ((j : ℕ) → is_marked marks j ≡ true → IsPassed c f row i (first + j))
+-- the steps before one are tests, which are true at the marked places, if that is told
+abbrev pub AreTold : Run → GroupSteps → Follow → ℕ → ℕ → Assignment → ℕ → Bool → List Bool → Type 0
+AreTold c group f first count row depth told marks =
+    (d : ℕ) → group.first < d → d < depth → (i : ℕ) × (test_of (step_at c d) ≡ Some i) × (told ≡ true → (j : ℕ) → is_marked marks j ≡ true → IsTestedAs c f.rel (part_from c f row first count) i true (first + j))
 
-pub told_next : (c : Run) (group : GroupSteps) (f : Follow) (first : ℕ) (row : Assignment) (depth : ℕ) (marks new : List Bool) (i : ℕ) → test_of (step_at c depth) ≡ Some i → AreTold c group f first row depth marks
-    → ((j : ℕ) → is_marked new j ≡ true → is_marked marks j ≡ true) → ((j : ℕ) → is_marked new j ≡ true → IsPassed c f row i (first + j)) → AreTold c group f first row (depth + 1) new
-told_next c group f first row depth marks new i is told kept passed d above below = elim (cases_eq d depth) [
+pub told_next : (c : Run) (group : GroupSteps) (f : Follow) (first count : ℕ) (row : Assignment) (depth : ℕ) (told : Bool) (marks : List Bool) → AreTold c group f first count row depth told marks → (i : ℕ) → test_of (step_at c depth) ≡ Some i → (now : Bool) → (now ≡ true → told ≡ true) → (new : List Bool)
+    → ((j : ℕ) → is_marked new j ≡ true → is_marked marks j ≡ true) → (now ≡ true → (j : ℕ) → is_marked new j ≡ true → IsTestedAs c f.rel (part_from c f row first count) i true (first + j)) → AreTold c group f first count row (depth + 1) now new
+told_next c group f first count row depth told marks are i is now was new kept passed d above below = elim (cases_eq d depth) [
   | inl same ↦ (i, ap (λ n. test_of (step_at c n)) same ∙ is, passed)
-  | inr other ↦ (let t = told d above (omega (arith, below, other)) in (t.0, t.1, λ j on. t.2 j (kept j on)))
+  | inr other ↦ (let t = are d above (omega (arith, below, other)) in (t.0, t.1, λ yes j on. t.2 (was yes) j (kept j on)))
 ]
 
 module _ (c : Run) (run : IsRun c) (group : GroupSteps) (range : IsRange c group) (old : Assignment) (held : IsHeld c old (known c group.first)) (f : Follow) (ext : Extends c group.first f)
     (first count : ℕ) (fits : first + count < 2 ^ 32) (inside : first + count ≤ length (neighbours c.graph (rel_table c.typed f.rel) f.direction (slice_index old.nodes f.from))) (some : group.first + 1 < group.end) where
-  pub told_sifted : (marks : List Bool) → IsAmong c group first count old marks → (depth : ℕ) → group.end ≤ depth → AreTold c group f first old depth marks → IsSifted c group first count old old marks
+  pub told_sifted : (marks : List Bool) → IsAmong c group first count old marks → (depth : ℕ) → group.end ≤ depth → AreTold c group f first count old depth true marks → IsSifted c group first count old old marks
   told_sifted marks among depth all told = record {
     held = held;
     alike = record { nodes = λ v e. refl; rels = λ x e. refl };
@@ -148,8 +121,8 @@ module _ (c : Run) (run : IsRun c) (group : GroupSteps) (range : IsRange c group
   }
     where
       made : (j : ℕ) → j < count → is_marked marks j ≡ true → makes_one c group (first + j) old ≡ true
-      made j low on = one_made c run group range (first + j) old held f ext (omega (arith, low, inside)) (omega (arith, low, fits)) some
-          (λ d above below. (let t = told d above (omega (arith, below, all)) in (t.0, t.1, t.2 j on)))
+      made j low on = one_made c run group range (first + j) old held f ext first count (omega (arith, low, inside)) (omega (arith, low, fits)) some
+          (λ d above below. (let t = told d above (omega (arith, below, all)) in (t.0, t.1, t.2 refl j on)))
 
       at : (j : ℕ) (b : Bool) → is_marked marks j ≡ b → (j < count) ⊎ (count ≤ j) → is_marked marks j ≡ (nat_lt j count && makes_one c group (first + j) old)
       at j true on (inl low) = on ∙ sym (ap (λ x. x && makes_one c group (first + j) old) (lt-ltb j count low) ∙ made j low on)

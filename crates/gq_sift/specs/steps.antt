@@ -1,6 +1,8 @@
+pub mod Asks
 pub mod Candidates
 pub mod Differing
+pub mod EdgeTests
 pub mod Filters
 pub mod Numbers
-pub mod Refused
+pub mod Parts
 pub mod RowTests

@@ -10,7 +10,7 @@ ghost use Rattle.gq_steps.specs.Levels.{step_at};
 ghost use Rattle.gq_steps.specs.Moves.{run_of, steps_in};
 ghost use Rattle.gq_steps.specs.Follows.{CanFollow};
 
-use crate::finding::{ListPart, place_of_number};
+use crate::finding::{part_from, place_of_number};
 use gq_bits::{Marks, VECTOR};
 use gq_chains::{pair_at, rel_table};
 use gq_plan::{Assignment, Follow, RelPair};
@@ -71,13 +71,7 @@ pub(crate) fn drop_number(
         (j : ℕ) → is_marked marks.new j ≡ (is_marked marks.old j && not (leads_to list
         (first + j) number)) }
 {
-    let part = ListPart {
-        table: plan_run.typed.rels.as_slice()[follow.rel as usize].table,
-        direction: follow.direction,
-        row: row.nodes.as_slice()[follow.from as usize],
-        low: first,
-        high: first + count,
-    };
+    let part = part_from(plan_run, follow, first, count, row);
     match place_of_number(plan_run.graph, part, number) {
         None => {}
         Some(place) => marks.set(place - first, false),

@@ -15,7 +15,7 @@ use gq_bits::{Marks, VECTOR};
 use gq_chains::{scanned, test_at};
 use gq_filter::Rows;
 use gq_plan::Assignment;
-use gq_steps::{Cut, GroupSteps, PlanRun};
+use gq_steps::{Action, Cut, GroupSteps, PlanRun};
 
 /// The node variable that a group scans, where its other steps are conditions.
 pub(crate) fn filters(group: GroupSteps) -> Option<u32>

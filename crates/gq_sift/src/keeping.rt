@@ -8,11 +8,10 @@ ghost use Rattle.gq_steps.specs.Moves.{run_of, IsRun, IsHeld};
 ghost use Rattle.gq_steps.specs.Tries.{tries};
 
 use crate::closing::candidates;
+use crate::edge_tests::test_edges;
 use crate::filtering::{filter, filters};
 use crate::lists::{filter_list, filters_list};
 use crate::places::keep_place;
-use crate::refusing::refuse;
-use crate::telling::keep_told;
 use gq_bits::{Marks, VECTOR};
 use gq_chains::sift_chain;
 use gq_plan::Assignment;
@@ -69,11 +68,10 @@ fn sift_each(
         (built_at c group.first) (step_at c group.first) (before c row.old group.first)) }
     ensures { IsSifted (run_of plan_run.now) group first count row.old row.new marks.new }
 {
-    if keep_told(plan_run, group, first, count, row, marks) {
+    *marks = candidates(plan_run, group, first, count, row);
+    if test_edges(plan_run, group, first, count, row, marks) {
         return;
     }
-    *marks = candidates(plan_run, group, first, count, row);
-    refuse(plan_run, group, first, count, row, marks);
     sift_among(plan_run, group, matches, first, count, row, marks);
 }
 

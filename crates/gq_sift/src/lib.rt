@@ -6,6 +6,7 @@
 mod closing;
 mod cuts;
 mod differing;
+mod edge_tests;
 mod filtering;
 mod finding;
 mod keeping;
@@ -13,10 +14,8 @@ mod lists;
 mod looping;
 mod places;
 mod reading;
-mod refusing;
 mod remembered;
 mod row_tests;
-mod telling;
 
 pub use cuts::cut_of;
 pub use keeping::{sift, sift_among};

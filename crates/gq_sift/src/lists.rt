@@ -39,8 +39,8 @@ pub(crate) fn filters_list(group: GroupSteps) -> Option<Follow>
     }
 }
 
-// How relationships are followed in a list to a node that was not bound, if they are.
-fn listed(action: Action) -> Option<Follow>
+/// How relationships are followed in a list to a node that was not bound, if they are.
+pub(crate) fn listed(action: Action) -> Option<Follow>
     ensures { IfSome result (λ follow. action ≡ Action.List follow) }
 {
     match action {
@@ -164,42 +164,26 @@ pub(crate) fn drop_pairs(
     requires tested { IsTested (run_of plan_run.now) group follow first count row.now marks.old }
     ensures { IsSifted (run_of plan_run.now) group first count row.now row.now marks.new }
 {
-    match group.cut {
-        // Rows alone decided all of them.
-        Cut::List => {
-            let _list = plan_run.list(follow, row);
-        }
-        _ => drop_each(plan_run, group, follow, first, count, row, marks),
-    }
-}
-
-// The same of a group some of whose steps may ask relationships to differ.
-fn drop_each(
-    plan_run: &PlanRun<'_>,
-    group: GroupSteps,
-    follow: Follow,
-    first: u32,
-    count: u32,
-    row: &Assignment,
-    marks: &mut Marks,
-)
-    requires run { IsRun (run_of plan_run.now) }
-    requires steps { IsRange (run_of plan_run.now) group }
-    requires filters { FiltersList (run_of plan_run.now) group follow }
-    requires held { IsHeld (run_of plan_run.now) row.now (known (run_of plan_run.now) group.first) }
-    requires count { count ≤ VECTOR }
-    requires inside { let table = rel_table plan_run.now.typed.now follow.rel in first + count
-        ≤ length (neighbours plan_run.now.graph.now table follow.direction
-        (slice_index row.now.nodes follow.from)) }
-    requires fits { first + count < 2 ^ 32 }
-    requires tested { IsTested (run_of plan_run.now) group follow first count row.now marks.old }
-    ensures { IsSifted (run_of plan_run.now) group first count row.now row.now marks.new }
-{
     let _list = plan_run.list(follow, row);
-    for depth in group.first + 1..group.end {
+    let end = asking_end(group);
+    for depth in group.first + 1..end {
         drop_pair(plan_run, depth, follow, first, count, row, marks);
     }
     let _whole = marks.word(0);
+}
+
+// The end of those of a group's steps that may ask relationships to differ: where rows alone decide
+// all of them, none does.
+fn asking_end(group: GroupSteps) -> usize
+    requires { group.first < group.end }
+    ensures some { group.first < result }
+    ensures within { result ≤ group.end }
+    ensures all { (result ≡ group.end) ⊎ (group.cut ≡ Cut.List) }
+{
+    match group.cut {
+        Cut::List => group.first + 1,
+        _ => group.end,
+    }
 }
 
 // Of so many places of a list, from one on, drops the one at which the relationship is from which the

@@ -1,8 +1,0 @@
-use Rattle.std.proofs.Common.{ℕ, ◌<◌, ◌≡◌, Some}
-use Rattle.gq_steps.specs.Moves.{run_of}
-use Rattle.gq_steps.specs.Levels.{step_at}
-use Rattle.gq_steps.specs.Tests.{test_of}
-use Rattle.gq_sift.proofs.cuts.are_conditions.Given as goal
-
-abbrev pub invariant-loop-depth : goal.invariant-loop-depth
-invariant-loop-depth l = (d : ℕ) → l.fn.first < d → d < l.depth → (i : ℕ) × (test_of (step_at (run_of l.plan_run) d) ≡ Some i)
