@@ -1,4 +1,4 @@
--- What it means that the columns, the keys and the conjuncts of a query are made ready.
+-- What it means that the columns, the keys and the conjuncts of a query are made.
 use Rattle.std.specs.Prelude.{◌≡◌, true, ℕ, List, flat_map, map, slice_get}
 use Rattle.gq_base.specs.Plain.{Graph}
 use Rattle.gq_eval.specs.Asked.{Asked, asked, asked_of}
@@ -21,6 +21,7 @@ pub record IsReading (g : Graph) (b : Bound) (r : Reading) : Type 0 where
   pub keys : r.keys ≡ asked_keys g b.keys
   pub conjuncts : r.conjuncts ≡ asked_of g b.conjuncts
 
--- where any were made ready, it was those of this query over this graph
-abbrev pub IsReadyFor : Graph → Bound → Reading → Type 0
-IsReadyFor g b r = r.ready ≡ true → IsReading g b r
+-- where any were made, it was those of this query over this graph
+pub record IsReadyFor (g : Graph) (b : Bound) (r : Reading) : Type 0 where
+  pub made : r.made ≡ true → IsReading g b r
+  pub ready : r.ready ≡ true → IsReading g b r

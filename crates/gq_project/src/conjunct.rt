@@ -13,10 +13,13 @@ use gq_plan::{BoundExpr, NamedExpr, Typed, has_number};
 use gq_store::Graph;
 use std::alloc::Global;
 use std::marker::Model;
+use std::mem;
 
 /// A conjunct over a graph. It is seen as the two.
 #[derive(Drop)]
 pub struct Conjunct<'g> {
+    condition: &'g BoundExpr,
+    graph: &'g Graph,
     evaluator: Evaluator<'g>,
     // What decides it in most rows, if lanes can.
     test: Option<ReadTest<'g>>,
@@ -26,7 +29,7 @@ impl<'g> Model for Conjunct<'g> {
     ghost use Rattle.std.specs.Prelude.{◌≡◌, IfSome};
     ghost use Rattle.std.specs.Coded.{codes};
     ghost use Rattle.gq_expr.specs.contracts.expr.Expr as expression;
-    ghost use Rattle.gq_eval.specs.Asked.{Asked};
+    ghost use Rattle.gq_eval.specs.Asked.{Asked, asked};
 
     ghost Value = { Asked };
 
@@ -34,7 +37,8 @@ impl<'g> Model for Conjunct<'g> {
 
     ghost view = { λ c. c.evaluator };
 
-    ghost invariant = { λ c. IfSome c.test (λ test. test ≡ c.evaluator) };
+    ghost invariant = { λ c. (c.evaluator ≡ asked c.condition.now c.graph.now)
+        × IfSome c.test (λ test. test ≡ c.evaluator) };
 }
 
 impl<'g> Conjunct<'g> {
@@ -50,6 +54,15 @@ impl<'g> Conjunct<'g> {
             Some(true) => verdict,
             Some(false) => Verdict::Dropped,
         }
+    }
+
+    // Has lanes decide it in the rows of an alternative, if they can. After a refusal it is asked as
+    // before.
+    fn start_test(&mut self, alloc: Global, typed: &Typed) -> Result<(), Memory>
+        ensures { self.new ≡ self.old }
+    {
+        self.test = ReadTest::new(alloc, self.graph, typed, self.condition)?;
+        Ok(())
     }
 
     // Whether it is true in a row, where lanes tell.
@@ -94,7 +107,12 @@ fn conjunct_of<'g>(
     ensures { IfOk result (λ made. made ≡ asked expr.now graph.now) }
 {
     match Evaluator::new(alloc, expr, graph) {
-        Ok(evaluator) => Ok(Conjunct { evaluator, test }),
+        Ok(evaluator) => Ok(Conjunct {
+            condition: expr,
+            graph,
+            evaluator,
+            test,
+        }),
         Err(memory) => Err(memory),
     }
 }
@@ -116,5 +134,45 @@ fn test_for<'g>(
         } else {
             Ok(None)
         },
+    }
+}
+
+/// Has lanes decide the conjuncts that another alternative leaves, in its rows, where they can. After
+/// a refusal they are asked as before.
+pub(crate) fn start_tests(
+    alloc: Global,
+    typed: &Typed,
+    conjuncts: &mut List<Conjunct<'_>>,
+) -> Result<(), Memory>
+    ensures { conjuncts.new ≡ conjuncts.old }
+{
+    let mut all = mem::replace(conjuncts, List::new(alloc)).into_vec();
+    let answer = start_each(alloc, typed, &mut all);
+    let _ = mem::replace(conjuncts, List::from_vec(all));
+    answer
+}
+
+// Has lanes decide each of the conjuncts that an alternative leaves.
+fn start_each(alloc: Global, typed: &Typed, conjuncts: &mut Vec<Conjunct<'_>>) -> Result<(), Memory>
+    ensures { conjuncts.new.items ≡ conjuncts.old.items }
+{
+    'late: for number in typed.late.as_slice() {
+        start_one(alloc, typed, *number, conjuncts)?;
+    }
+    Ok(())
+}
+
+// Has lanes decide the conjunct of a number.
+fn start_one(
+    alloc: Global,
+    typed: &Typed,
+    number: u32,
+    conjuncts: &mut Vec<Conjunct<'_>>,
+) -> Result<(), Memory>
+    ensures { conjuncts.new.items ≡ conjuncts.old.items }
+{
+    match conjuncts.get_mut(number as usize) {
+        None => Ok(()),
+        Some(conjunct) => conjunct.start_test(alloc, typed),
     }
 }

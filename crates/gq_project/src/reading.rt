@@ -1,10 +1,10 @@
-//! The columns, the keys and the conjuncts of a query, each made ready once for many rows.
+//! The columns, the keys and the conjuncts of a query, each made once for many rows.
 ghost use Rattle.std.specs.Prelude.{◌≡◌, IfOk, OnOk, false};
 ghost use Rattle.gq_base.specs.Plain.{Graph as Plain};
 ghost use Rattle.gq_plan.specs.declared.bound.Bound.{Bound as Query};
 ghost use Rattle.gq_project.specs.Reading.{IsReading, IsReadyFor, asked_keys};
 
-use crate::conjunct::{Conjunct, conjuncts};
+use crate::conjunct::{Conjunct, conjuncts, start_tests};
 use gq_base::{List, Memory};
 use gq_eval::{Evaluator, evaluators};
 use gq_plan::{Bound, SortExpr, Typed};
@@ -12,9 +12,12 @@ use gq_store::Graph;
 use std::alloc::Global;
 
 /// The columns, the keys and the conjuncts of a query, as they are evaluated over a graph, once they
-/// were made ready.
+/// were made.
 #[derive(Drop)]
 pub struct Reading<'g> {
+    /// All are made.
+    pub made: bool,
+    /// All are made, and what lanes decide of the conjuncts is of the alternative whose rows follow.
     pub ready: bool,
     pub columns: List<Evaluator<'g>>,
     pub keys: List<Evaluator<'g>>,
@@ -22,11 +25,13 @@ pub struct Reading<'g> {
 }
 
 impl<'g> Reading<'g> {
-    /// Nothing is made ready. It takes no memory.
+    /// Nothing is made. It takes no memory.
     pub fn new(alloc: Global) -> Reading<'g>
-        ensures { result.ready ≡ false }
+        ensures made { result.made ≡ false }
+        ensures ready { result.ready ≡ false }
     {
         Reading {
+            made: false,
             ready: false,
             columns: List::new(alloc),
             keys: List::new(alloc),
@@ -34,7 +39,8 @@ impl<'g> Reading<'g> {
         }
     }
 
-    /// Another alternative's rows follow: where it leaves conjuncts, all is made ready anew.
+    /// Another alternative's rows follow: where it leaves conjuncts, what lanes decide of them is made
+    /// anew, and nothing else.
     pub fn start_alternative(&mut self, typed: &Typed)
         ensures { (g : Plain) (b : Query) → IsReadyFor g b self.old → IsReadyFor g b self.new }
     {
@@ -75,7 +81,13 @@ impl<'g> Reading<'g> {
         ensures reads { OnOk result (IsReading graph.now bound.now self.new) }
         ensures ready { IsReadyFor graph.now bound.now self.new }
     {
+        if self.made {
+            start_tests(alloc, typed, &mut self.conjuncts)?;
+            self.ready = true;
+            return Ok(());
+        }
         *self = Reading {
+            made: true,
             ready: true,
             columns: evaluators(alloc, bound.columns.as_slice(), graph)?,
             keys: key_evaluators(alloc, bound.keys.as_slice(), graph)?,
