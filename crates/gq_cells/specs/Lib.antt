@@ -1,4 +1,5 @@
 pub mod Behind
+pub mod Lanes
 pub mod Numbers
 pub mod Properties
 pub mod steps

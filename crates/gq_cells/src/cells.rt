@@ -5,10 +5,12 @@ ghost use Rattle.gq_base.specs.Values.{null, val};
 ghost use Rattle.gq_base.specs.declared.value.Value.TheVariants as value;
 ghost use Rattle.gq_bits.specs.Places.{is_marked};
 ghost use Rattle.gq_cells.specs.Behind.{IsBehindBar};
+ghost use Rattle.gq_cells.specs.Lanes.{lane_val};
 ghost use Rattle.gq_cells.specs.Numbers.{IsNumber, number_val};
 ghost use Rattle.gq_cells.specs.steps.Inner.{cell_of};
 
 use crate::behind::{WINDOW, behind};
+use crate::lane::Lane;
 use crate::source::Source;
 use gq_base::{Kind, Memory, Value};
 use gq_bits::Marks;
@@ -152,12 +154,13 @@ impl<'g> Cells<'g> {
 
     /// Reads values that stand so many places from one another, from a place on: in one loop, where
     /// one source has all of them.
-    pub fn values(&self, first: usize, step: usize, count: usize, out: &mut [Value<'g>; 64])
+    pub fn values(&self, first: usize, step: usize, count: usize, out: &mut Lane<'g>)
         requires few { count ≤ 64 }
         requires within { (k : ℕ) → k < count → first + k * step < length self.now.values }
-        ensures { (k : ℕ) → k < count → val (slice_index_or out.new k value.Null)
+        ensures { (k : ℕ) → k < count → lane_val out.new k
             ≡ slice_index_or self.now.values (first + k * step) null }
     {
+        out.has_integers = false;
         if count == 0 {
             return;
         }
@@ -171,9 +174,9 @@ impl<'g> Cells<'g> {
             source,
             &mut numbers,
         ) {
-            self.sources[source as usize].values(&numbers, count, out);
+            self.sources[source as usize].read(&numbers, count, out);
         } else {
-            self.values_each(first, step, count, out);
+            self.values_each(first, step, count, &mut out.values);
         }
     }
 

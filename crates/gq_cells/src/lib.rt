@@ -6,10 +6,12 @@
 
 mod behind;
 mod cells;
+mod lane;
 mod property;
 mod source;
 
 pub use behind::WINDOW;
 pub use cells::Cells;
+pub use lane::Lane;
 pub use property::{node_property, rel_places, rel_property};
 pub use source::Source;

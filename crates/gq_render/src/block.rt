@@ -1,13 +1,17 @@
 //! The lines of a listing as they are put: the values of some lines are read before, column by
 //! column, so that what one waits for does not wait for another.
 
-ghost use Rattle.std.specs.Prelude.{[], ◌≡◌, ℕ, ◌+◌, ◌-◌, ◌<◌, ◌≤◌, IsTrue, length, slice_index_or};
+ghost use Rattle.std.specs.Prelude.{[], ◌≡◌, ℕ, ◌+◌, ◌-◌, ◌<◌, ◌≤◌, IfSome, IsTrue, length};
+ghost use Rattle.std.specs.Prelude.{slice_index_or};
 ghost use Rattle.std.specs.List.{All};
 ghost use Rattle.gq_base.specs.Values.{null, val};
-ghost use Rattle.gq_render.specs.steps.Blocks.{AllStaying, AreRead, IsSame, Staying};
+ghost use Rattle.gq_render.specs.steps.Blocks.{AllStaying, AreRead, HasLine, HasRead, IsSame};
+ghost use Rattle.gq_render.specs.steps.Blocks.{Staying, line_of};
 
 use gq_base::Value;
+use gq_cells::Lane;
 use gq_rows::Listing;
+use gq_store::Graph;
 use std::marker::Model;
 
 /// At most so many lines are read at once.
@@ -16,12 +20,14 @@ pub(crate) const LINES: usize = 64;
 /// Of so many of the first columns values are read before, and of others when they are put.
 const COLUMNS: usize = 8;
 
-/// A listing, and the values of some lines of it. It is seen as its lines.
+/// The lines of a listing over a graph, from one on and to below another, as they are put: those of
+/// which the values were read, or all of them.
 #[derive(Drop)]
 pub(crate) struct Block<'b, 'g> {
+    graph: &'b Graph,
     listing: &'b Listing<'g>,
-    // The values of the lines from `first` to below `end`, column by column, from column `staying` on.
-    lanes: &'b [[Value<'g>; 64]],
+    // What was read of these lines, column by column, from column `staying` on.
+    lanes: &'b [Lane<'g>],
     first: usize,
     end: usize,
     // In so many of the first columns these lines have the same values.
@@ -39,31 +45,40 @@ impl<'b, 'g> Model for Block<'b, 'g> {
 }
 
 impl<'b, 'g> Block<'b, 'g> {
-    /// A listing of which no values were read.
-    pub(crate) fn plain(listing: &'b Listing<'g>) -> Block<'b, 'g>
-        ensures { result.lines ≡ listing.now.lines }
+    /// All lines of a listing, of which no values were read.
+    pub(crate) fn plain(graph: &'b Graph, listing: &'b Listing<'g>) -> Block<'b, 'g>
+        ensures graph { result.graph ≡ graph.now }
+        ensures lines { result.lines ≡ listing.now.lines }
+        ensures first { result.first ≡ 0 }
+        ensures end { result.end ≡ length listing.now.lines }
     {
         Block {
+            graph,
             listing,
             lanes: &[],
             first: 0,
-            end: 0,
+            end: listing.len(),
             staying: 0,
         }
     }
 
-    /// A listing of which the values of these lines were read.
+    /// The lines of a listing of which the values were read.
     pub(crate) fn read(
+        graph: &'b Graph,
         listing: &'b Listing<'g>,
-        lanes: &'b [[Value<'g>; 64]; 8],
+        lanes: &'b [Lane<'g>; 8],
         first: usize,
         end: usize,
         staying: usize,
     ) -> Block<'b, 'g>
         requires { AreRead listing.now.lines first end staying lanes.now }
-        ensures { result.lines ≡ listing.now.lines }
+        ensures graph { result.graph ≡ graph.now }
+        ensures lines { result.lines ≡ listing.now.lines }
+        ensures first { result.first ≡ first }
+        ensures end { result.end ≡ end }
     {
         Block {
+            graph,
             listing,
             lanes,
             first,
@@ -72,7 +87,14 @@ impl<'b, 'g> Block<'b, 'g> {
         }
     }
 
-    /// How many lines there are.
+    /// The graph.
+    pub(crate) fn graph(&self) -> &'b Graph
+        ensures { result.now ≡ self.now.graph }
+    {
+        self.graph
+    }
+
+    /// How many lines the listing has.
     pub(crate) fn len(&self) -> usize
         ensures { result ≡ length self.now.lines }
     {
@@ -82,26 +104,39 @@ impl<'b, 'g> Block<'b, 'g> {
     /// How many values a line has.
     pub(crate) fn width(&self, row: usize) -> usize
         requires { row < length self.now.lines }
-        ensures { result ≡ length (slice_index_or self.now.lines row []) }
+        ensures { result ≡ length (line_of self.now row) }
     {
         self.listing.width(row)
     }
 
     /// The value of a line in a column, both counted from 0.
-    #[inline(always)]
     pub(crate) fn value(&self, row: usize, column: usize) -> Value<'g>
         requires row { row < length self.now.lines }
-        requires column { column < length (slice_index_or self.now.lines row []) }
-        ensures { val result ≡ slice_index_or (slice_index_or self.now.lines row []) column null }
+        requires column { column < length (line_of self.now row) }
+        ensures { val result ≡ slice_index_or (line_of self.now row) column null }
     {
-        if column < self.lanes.len()
-            && column >= self.staying
-            && row >= self.first
-            && row < self.end
-        {
-            return self.lanes[column][row - self.first];
-        }
         self.listing.value(row, column)
+    }
+
+    /// The values of the lines in a column, where they were read.
+    #[inline(always)]
+    pub(crate) fn lane(&self, column: usize) -> Option<&'b Lane<'g>>
+        ensures { IfSome result (λ lane.
+            HasRead self.now.lines self.now.first self.now.end column lane.now) }
+    {
+        if column < self.staying || column >= self.lanes.len() {
+            return None;
+        }
+        Some(&self.lanes[column])
+    }
+
+    /// Where a lane has the value of a line.
+    #[inline(always)]
+    pub(crate) fn place(&self, row: usize) -> usize
+        requires { HasLine self.now row }
+        ensures { result ≡ row - self.now.first }
+    {
+        row - self.first
     }
 
     /// Whether the value of a line in a column, both counted from 0, is kept as that of the line
@@ -122,14 +157,10 @@ impl<'b, 'g> Block<'b, 'g> {
     /// without a look at them.
     #[inline(always)]
     pub(crate) fn staying(&self, row: usize) -> usize
-        requires { row < length self.now.lines }
+        requires { HasLine self.now row }
         ensures { Staying self.now.lines row result }
     {
-        if row >= self.first && self.end.saturating_sub(row) > 1 {
-            self.staying
-        } else {
-            0
-        }
+        if self.end - row > 1 { self.staying } else { 0 }
     }
 }
 
@@ -137,7 +168,7 @@ impl<'b, 'g> Block<'b, 'g> {
 /// all of them.
 pub(crate) fn read_lines<'g>(
     listing: &Listing<'g>,
-    lanes: &mut [[Value<'g>; 64]; 8],
+    lanes: &mut [Lane<'g>; 8],
     first: usize,
     end: usize,
 ) -> usize

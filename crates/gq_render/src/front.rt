@@ -2,15 +2,14 @@
 
 ghost use Rattle.std.specs.Prelude.{[], ◌≡◌, ◌+◌, ◌++◌, ◌<◌, ◌-◌, ◌≤◌, IfOk, length};
 ghost use Rattle.std.specs.Prelude.{slice_index_or, true};
-ghost use Rattle.gq_base.specs.Values.{val};
+ghost use Rattle.gq_base.specs.Values.{null};
 ghost use Rattle.gq_render.specs.Listings.{value_text};
+ghost use Rattle.gq_render.specs.steps.Blocks.{HasLine, line_of};
 ghost use Rattle.gq_render.specs.steps.Fronts.{AreStarts, IsCut, IsFront, IsShared, before_tab};
 
 use crate::block::Block;
-use crate::value::put_value;
-use gq_base::Value;
+use crate::lane::put_at;
 use gq_io::{Batch, Failed, Nowhere};
-use gq_store::Graph;
 
 // A front has so many columns at most.
 const MOST: usize = 16;
@@ -50,9 +49,7 @@ impl Front {
     /// Whether it does not pay to ask what the next row has in common with the one behind: the last
     /// rows that were asked had nothing.
     #[inline(always)]
-    pub(crate) fn rests(&self) -> bool
-        ensures { result ≡ true → self.now.held ≡ 0 }
-    {
+    pub(crate) fn rests(&self) -> bool {
         self.held == 0 && self.missed >= MISSES && self.missed < MISSES + UNASKED
     }
 
@@ -75,18 +72,16 @@ impl Front {
     /// Puts the texts of further columns of a row, up to so many. Where they do not fit, the front
     /// has no columns.
     #[inline(always)]
-    pub(crate) fn fill(&mut self, graph: &Graph, listing: &Block<'_, '_>, row: usize, count: usize)
-        requires row { row < length listing.now.lines }
-        requires few { count ≤ length (slice_index_or listing.now.lines row []) - 1 }
+    pub(crate) fn fill(&mut self, block: &Block<'_, '_>, row: usize, count: usize)
+        requires row { HasLine block.now row }
+        requires few { count ≤ length (line_of block.now row) - 1 }
         requires room { count ≤ 16 }
-        requires front { let line = slice_index_or listing.now.lines row [] in
-            IsFront graph.now line self.old }
-        ensures { let line = slice_index_or listing.now.lines row [] in
-            IsFront graph.now line self.new }
+        requires front { IsFront block.now.graph (line_of block.now row) self.old }
+        ensures { IsFront block.now.graph (line_of block.now row) self.new }
     {
         for column in self.held..count {
             self.starts[column] = self.text.len();
-            match put_behind(&mut self.text, graph, &listing.value(row, column)) {
+            match put_behind(&mut self.text, block, row, column) {
                 Ok(()) => self.held = column + 1,
                 Err(Failed) => {
                     self.text.truncate(0);
@@ -111,34 +106,40 @@ impl Front {
     }
 }
 
-// Puts a value and a tab behind a text, where there is room for them.
+// Puts the value of a line in a column and a tab behind a text, where there is room for them.
 #[inline(never)]
-fn put_behind(text: &mut Batch, graph: &Graph, value: &Value<'_>) -> Result<(), Failed>
-    ensures { IfOk result (λ _. text.new
-        ≡ text.old ++ before_tab (value_text graph.now (val value.now))) }
+fn put_behind(
+    text: &mut Batch,
+    block: &Block<'_, '_>,
+    row: usize,
+    column: usize,
+) -> Result<(), Failed>
+    requires row { HasLine block.now row }
+    requires column { column < length (line_of block.now row) }
+    ensures { let value = slice_index_or (line_of block.now row) column null in
+        IfOk result (λ _. text.new ≡ text.old ++ before_tab (value_text block.now.graph value)) }
 {
     let mut nowhere = Nowhere::new();
-    put_value(text, &mut nowhere, graph, value)?;
+    put_at(text, &mut nowhere, block, row, column)?;
     text.put(&mut nowhere, b"\t")
 }
 
 /// How many of the first columns have the same value in a row and in the next one, at most so many
 /// as a front has, and not the last column.
 #[inline(always)]
-pub(crate) fn shared(listing: &Block<'_, '_>, row: usize) -> usize
-    requires { row < length listing.now.lines }
-    ensures { let lines = listing.now.lines in
-        IsShared (slice_index_or lines row []) (slice_index_or lines (row + 1) []) result }
+pub(crate) fn shared(block: &Block<'_, '_>, row: usize) -> usize
+    requires { HasLine block.now row }
+    ensures { IsShared (line_of block.now row) (line_of block.now (row + 1)) result }
 {
-    let count = listing.len();
+    let count = block.len();
     if count - row < 2 {
         return 0;
     }
     let next = row + 1;
-    let width = listing.width(row).min(listing.width(next));
+    let width = block.width(row).min(block.width(next));
     let most = width.saturating_sub(1).min(MOST);
-    for column in listing.staying(row).min(most)..most {
-        if !listing.stays(next, column) {
+    for column in block.staying(row).min(most)..most {
+        if !block.stays(next, column) {
             return column;
         }
     }

@@ -130,7 +130,7 @@ pub fn write_row<O: Sink>(
     ensures cause { HasCause (O.faults out.old) (O.faults out.new) result }
 {
     let mut batch = Batch::new();
-    put_row(&mut batch, out, graph, &Block::plain(listing), row)?;
+    put_row(&mut batch, out, &Block::plain(graph, listing), row)?;
     batch.flush(out)
 }
 
@@ -149,8 +149,9 @@ fn put_end_rows<O: Sink>(
     if count == 0 {
         return Ok(());
     }
-    put_row(batch, out, graph, &Block::plain(listing), 0)?;
-    put_row(batch, out, graph, &Block::plain(listing), count - 1)
+    let block = Block::plain(graph, listing);
+    put_row(batch, out, &block, 0)?;
+    put_row(batch, out, &block, count - 1)
 }
 
 fn put_ends<O: Sink>(

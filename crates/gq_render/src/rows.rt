@@ -2,17 +2,18 @@
 
 ghost use Rattle.std.specs.Prelude.{[], ◌≡◌, ◌+◌, ◌<◌, ◌≤◌, OnOk, codes, drop, flat_map, length, map};
 ghost use Rattle.std.specs.Prelude.{slice_index_or, take, ◌-◌};
-ghost use Rattle.gq_base.specs.Values.{val};
+ghost use Rattle.gq_base.specs.Values.{null};
 ghost use Rattle.gq_io.specs.Causes.{HasCause};
 ghost use Rattle.gq_io.specs.Putting.{Puts};
-ghost use Rattle.gq_render.specs.steps.Fronts.{IsFront};
+ghost use Rattle.gq_render.specs.steps.Blocks.{HasLine, HasLines, line_of};
+ghost use Rattle.gq_render.specs.steps.Fronts.{IsFront, IsShared};
 ghost use Rattle.gq_render.specs.Listings.{row_text, value_text};
 ghost use Rattle.gq_render.specs.Texts.{after_tab, tabbed};
 
 use crate::block::{Block, LINES, read_lines};
 use crate::front::{Front, shared};
-use crate::value::put_value;
-use gq_base::Value;
+use crate::lane::put_at;
+use gq_cells::Lane;
 use gq_io::{Batch, Failed, Sink};
 use gq_rows::Listing;
 use gq_store::Graph;
@@ -26,18 +27,23 @@ pub(crate) fn put_tab<O: Sink>(batch: &mut Batch, out: &mut O) -> Result<(), Fai
     batch.put(out, b"\t")
 }
 
+#[inline(always)]
 fn put_next_value<O: Sink>(
     batch: &mut Batch,
     out: &mut O,
-    graph: &Graph,
-    value: &Value<'_>,
+    block: &Block<'_, '_>,
+    row: usize,
+    column: usize,
 ) -> Result<(), Failed>
-    ensures bytes { Puts (O.taken out.old) (O.taken out.new) batch.old batch.new
-        (after_tab (value_text graph.now (val value.now))) result }
+    requires row { HasLine block.now row }
+    requires column { column < length (line_of block.now row) }
+    ensures bytes { let value = slice_index_or (line_of block.now row) column null in
+        Puts (O.taken out.old) (O.taken out.new) batch.old batch.new
+        (after_tab (value_text block.now.graph value)) result }
     ensures cause { HasCause (O.faults out.old) (O.faults out.new) result }
 {
     put_tab(batch, out)?;
-    put_value(batch, out, graph, value)
+    put_at(batch, out, block, row, column)
 }
 
 // Puts the values of a line from a column on, each behind a tab.
@@ -45,20 +51,19 @@ fn put_next_value<O: Sink>(
 fn put_other_values<O: Sink>(
     batch: &mut Batch,
     out: &mut O,
-    graph: &Graph,
-    listing: &Block<'_, '_>,
+    block: &Block<'_, '_>,
     row: usize,
     first: usize,
 ) -> Result<(), Failed>
-    requires row { row < length listing.now.lines }
-    requires first { first ≤ length (slice_index_or listing.now.lines row []) }
-    ensures bytes { let values = slice_index_or listing.now.lines row [] in
+    requires row { HasLine block.now row }
+    requires first { first ≤ length (line_of block.now row) }
+    ensures bytes { let values = drop first (line_of block.now row) in
         Puts (O.taken out.old) (O.taken out.new) batch.old batch.new
-        (flat_map (λ value. after_tab (value_text graph.now value)) (drop first values)) result }
+        (flat_map (λ value. after_tab (value_text block.now.graph value)) values) result }
     ensures cause { HasCause (O.faults out.old) (O.faults out.new) result }
 {
-    for column in first..listing.width(row) {
-        put_next_value(batch, out, graph, &listing.value(row, column))?;
+    for column in first..block.width(row) {
+        put_next_value(batch, out, block, row, column)?;
     }
     Ok(())
 }
@@ -68,22 +73,21 @@ fn put_other_values<O: Sink>(
 fn put_values<O: Sink>(
     batch: &mut Batch,
     out: &mut O,
-    graph: &Graph,
-    listing: &Block<'_, '_>,
+    block: &Block<'_, '_>,
     row: usize,
     first: usize,
 ) -> Result<(), Failed>
-    requires row { row < length listing.now.lines }
-    ensures bytes { let values = slice_index_or listing.now.lines row [] in
+    requires row { HasLine block.now row }
+    ensures bytes { let values = drop first (line_of block.now row) in
         Puts (O.taken out.old) (O.taken out.new) batch.old batch.new
-        (tabbed (map (value_text graph.now) (drop first values))) result }
+        (tabbed (map (value_text block.now.graph) values)) result }
     ensures cause { HasCause (O.faults out.old) (O.faults out.new) result }
 {
-    if listing.width(row) <= first {
+    if block.width(row) <= first {
         return Ok(());
     }
-    put_value(batch, out, graph, &listing.value(row, first))?;
-    put_other_values(batch, out, graph, listing, row, first + 1)
+    put_at(batch, out, block, row, first)?;
+    put_other_values(batch, out, block, row, first + 1)
 }
 
 // Puts the line of a row from a column on.
@@ -91,36 +95,33 @@ fn put_values<O: Sink>(
 fn put_rest<O: Sink>(
     batch: &mut Batch,
     out: &mut O,
-    graph: &Graph,
-    listing: &Block<'_, '_>,
+    block: &Block<'_, '_>,
     row: usize,
     first: usize,
 ) -> Result<(), Failed>
-    requires row { row < length listing.now.lines }
-    ensures bytes { let values = slice_index_or listing.now.lines row [] in
-        Puts (O.taken out.old) (O.taken out.new) batch.old batch.new
-        (row_text graph.now (drop first values)) result }
+    requires row { HasLine block.now row }
+    ensures bytes { Puts (O.taken out.old) (O.taken out.new) batch.old batch.new
+        (row_text block.now.graph (drop first (line_of block.now row))) result }
     ensures cause { HasCause (O.faults out.old) (O.faults out.new) result }
 {
-    put_values(batch, out, graph, listing, row, first)?;
+    put_values(batch, out, block, row, first)?;
     batch.put(out, b"\n")
 }
 
 // Puts the line of a row.
+#[inline(always)]
 pub(crate) fn put_row<O: Sink>(
     batch: &mut Batch,
     out: &mut O,
-    graph: &Graph,
-    listing: &Block<'_, '_>,
+    block: &Block<'_, '_>,
     row: usize,
 ) -> Result<(), Failed>
-    requires { row < length listing.now.lines }
-    ensures bytes { let values = slice_index_or listing.now.lines row [] in
-        Puts (O.taken out.old) (O.taken out.new) batch.old batch.new
-        (row_text graph.now values) result }
+    requires { HasLine block.now row }
+    ensures bytes { Puts (O.taken out.old) (O.taken out.new) batch.old batch.new
+        (row_text block.now.graph (line_of block.now row)) result }
     ensures cause { HasCause (O.faults out.old) (O.faults out.new) result }
 {
-    put_rest(batch, out, graph, listing, row, 0)
+    put_rest(batch, out, block, row, 0)
 }
 
 // Puts the line of a row, of which the front is the text of the first columns.
@@ -128,103 +129,79 @@ pub(crate) fn put_row<O: Sink>(
 fn put_behind_front<O: Sink>(
     batch: &mut Batch,
     out: &mut O,
-    graph: &Graph,
-    listing: &Block<'_, '_>,
+    block: &Block<'_, '_>,
     row: usize,
     front: &Front,
 ) -> Result<(), Failed>
-    requires row { row < length listing.now.lines }
-    requires front { let values = slice_index_or listing.now.lines row [] in
-        IsFront graph.now values front.now }
-    ensures bytes { let values = slice_index_or listing.now.lines row [] in
-        Puts (O.taken out.old) (O.taken out.new) batch.old batch.new
-        (row_text graph.now values) result }
+    requires row { HasLine block.now row }
+    requires front { IsFront block.now.graph (line_of block.now row) front.now }
+    ensures bytes { Puts (O.taken out.old) (O.taken out.new) batch.old batch.new
+        (row_text block.now.graph (line_of block.now row)) result }
     ensures cause { HasCause (O.faults out.old) (O.faults out.new) result }
 {
+    if front.held == 0 {
+        return put_row(batch, out, block, row);
+    }
     batch.put(out, front.text.bytes())?;
-    put_rest(batch, out, graph, listing, row, front.held)
+    put_rest(batch, out, block, row, front.held)
 }
 
-// Puts the line of a row, of which the front has first columns. What columns have in common with the next row is left in the
-// front.
+// Puts the line of a row, of which the front has first columns. What columns are found to have in
+// common with the next row is left in the front.
 #[inline(always)]
-fn put_staying_row<O: Sink>(
+fn put_next_row<O: Sink>(
     batch: &mut Batch,
     out: &mut O,
-    graph: &Graph,
-    listing: &Block<'_, '_>,
+    block: &Block<'_, '_>,
     row: usize,
     front: &mut Front,
 ) -> Result<(), Failed>
-    requires row { row < length listing.now.lines }
-    requires front { let values = slice_index_or listing.now.lines row [] in
-        IsFront graph.now values front.old }
-    ensures bytes { let values = slice_index_or listing.now.lines row [] in
-        Puts (O.taken out.old) (O.taken out.new) batch.old batch.new
-        (row_text graph.now values) result }
+    requires row { HasLine block.now row }
+    requires front { IsFront block.now.graph (line_of block.now row) front.old }
+    ensures bytes { Puts (O.taken out.old) (O.taken out.new) batch.old batch.new
+        (row_text block.now.graph (line_of block.now row)) result }
     ensures cause { HasCause (O.faults out.old) (O.faults out.new) result }
-    ensures front { let next = slice_index_or listing.now.lines (row + 1) [] in
-        IsFront graph.now next front.new }
+    ensures front { IsFront block.now.graph (line_of block.now (row + 1)) front.new }
 {
-    let count = shared(listing, row);
-    front.fill(graph, listing, row, count);
-    let result = put_behind_front(batch, out, graph, listing, row, front);
+    let count = found_shared(block, row, front);
+    front.fill(block, row, count);
+    let result = put_behind_front(batch, out, block, row, front);
     front.cut(count);
     front.note(count);
     result
 }
 
-// The same, without asking what columns have in common where that does not pay.
+// How many of the first columns a row is found to have in common with the next one. They are not
+// looked at where that does not pay.
 #[inline(always)]
-fn put_next_row<O: Sink>(
-    batch: &mut Batch,
-    out: &mut O,
-    graph: &Graph,
-    listing: &Block<'_, '_>,
-    row: usize,
-    front: &mut Front,
-) -> Result<(), Failed>
-    requires row { row < length listing.now.lines }
-    requires front { let values = slice_index_or listing.now.lines row [] in
-        IsFront graph.now values front.old }
-    ensures bytes { let values = slice_index_or listing.now.lines row [] in
-        Puts (O.taken out.old) (O.taken out.new) batch.old batch.new
-        (row_text graph.now values) result }
-    ensures cause { HasCause (O.faults out.old) (O.faults out.new) result }
-    ensures front { let next = slice_index_or listing.now.lines (row + 1) [] in
-        IsFront graph.now next front.new }
+fn found_shared(block: &Block<'_, '_>, row: usize, front: &Front) -> usize
+    requires { HasLine block.now row }
+    ensures { IsShared (line_of block.now row) (line_of block.now (row + 1)) result }
 {
-    if front.rests() {
-        front.note(0);
-        return put_row(batch, out, graph, listing, row);
-    }
-    put_staying_row(batch, out, graph, listing, row, front)
+    if front.rests() { 0 } else { shared(block, row) }
 }
 
-// Puts the lines from a row to below another one. What columns of a row have in common with the next
+// Puts lines, from a row on to below another one. What columns of a row have in common with the next
 // one is put once.
 #[inline(never)]
 fn put_lines<O: Sink>(
     batch: &mut Batch,
     out: &mut O,
-    graph: &Graph,
-    listing: &Block<'_, '_>,
+    block: &Block<'_, '_>,
     front: &mut Front,
     first: usize,
     end: usize,
 ) -> Result<(), Failed>
-    requires ordered { first ≤ end }
-    requires within { end ≤ length listing.now.lines }
-    requires front { IsFront graph.now (slice_index_or listing.now.lines first []) front.old }
-    ensures bytes { let lines = take (end - first) (drop first listing.now.lines) in
+    requires lines { HasLines block.now first end }
+    requires front { IsFront block.now.graph (line_of block.now first) front.old }
+    ensures bytes { let lines = take (end - first) (drop first block.now.lines) in
         Puts (O.taken out.old) (O.taken out.new) batch.old batch.new
-        (flat_map (row_text graph.now) lines) result }
+        (flat_map (row_text block.now.graph) lines) result }
     ensures cause { HasCause (O.faults out.old) (O.faults out.new) result }
-    ensures front { OnOk result
-        (IsFront graph.now (slice_index_or listing.now.lines end []) front.new) }
+    ensures front { OnOk result (IsFront block.now.graph (line_of block.now end) front.new) }
 {
     for row in first..end {
-        put_next_row(batch, out, graph, listing, row, front)?;
+        put_next_row(batch, out, block, row, front)?;
     }
     Ok(())
 }
@@ -235,7 +212,7 @@ fn put_read_lines<'g, O: Sink>(
     out: &mut O,
     graph: &Graph,
     listing: &Listing<'g>,
-    lanes: &mut [[Value<'g>; 64]; 8],
+    lanes: &mut [Lane<'g>; 8],
     front: &mut Front,
     first: usize,
     end: usize,
@@ -252,8 +229,8 @@ fn put_read_lines<'g, O: Sink>(
         (IsFront graph.now (slice_index_or listing.now.lines end []) front.new) }
 {
     let staying = read_lines(listing, lanes, first, end);
-    let block = Block::read(listing, lanes, first, end, staying);
-    put_lines(batch, out, graph, &block, front, first, end)
+    let block = Block::read(graph, listing, lanes, first, end, staying);
+    put_lines(batch, out, &block, front, first, end)
 }
 
 // Puts the line of each row, some of them at a time.
@@ -263,7 +240,7 @@ fn put_blocks<'g, O: Sink>(
     out: &mut O,
     graph: &Graph,
     listing: &Listing<'g>,
-    lanes: &mut [[Value<'g>; 64]; 8],
+    lanes: &mut [Lane<'g>; 8],
     front: &mut Front,
 ) -> Result<(), Failed>
     requires none { front.old.held ≡ 0 }
@@ -295,23 +272,16 @@ pub(crate) fn put_rows<O: Sink>(
 {
     let mut front = Front::new();
     let len = listing.len();
-    if len < LINES / 2 {
-        return put_lines(
-            batch,
-            out,
-            graph,
-            &Block::plain(listing),
-            &mut front,
-            0,
-            len,
-        );
+    if len < LINES / 2 || !listing.is_kept() {
+        let block = Block::plain(graph, listing);
+        return put_lines(batch, out, &block, &mut front, 0, len);
     }
     put_blocks(
         batch,
         out,
         graph,
         listing,
-        &mut [[Value::Null; 64]; 8],
+        &mut [Lane::new(); 8],
         &mut front,
     )
 }

@@ -4,10 +4,11 @@ ghost use Rattle.std.specs.Prelude.{slice_index_or};
 ghost use Rattle.std.specs.List.{All};
 ghost use Rattle.gq_base.specs.Values.{null, val};
 ghost use Rattle.gq_base.specs.declared.value.Value.TheVariants as value;
+ghost use Rattle.gq_cells.specs.Lanes.{lane_val};
 ghost use Rattle.gq_rows.specs.steps.Lines.{values_of};
 
 use gq_base::Value;
-use gq_cells::Cells;
+use gq_cells::{Cells, Lane};
 use std::marker::Model;
 
 /// The values of rows, one row after another.
@@ -31,14 +32,17 @@ impl<'g> Values<'g> {
     }
 
     // Values that stand so many places from one another, from a place on.
-    fn values(&self, first: usize, step: usize, count: usize, out: &mut [Value<'g>; 64])
+    fn values(&self, first: usize, step: usize, count: usize, out: &mut Lane<'g>)
         requires few { count ≤ 64 }
         requires within { (k : ℕ) → k < count → first + k * step < length (values_of self.now) }
-        ensures { (k : ℕ) → k < count → val (slice_index_or out.new k value.Null)
+        ensures { (k : ℕ) → k < count → lane_val out.new k
             ≡ slice_index_or (values_of self.now) (first + k * step) null }
     {
         match self {
-            Values::Made(values) => made_values(values.as_slice(), first, step, count, out),
+            Values::Made(values) => {
+                out.has_integers = false;
+                made_values(values.as_slice(), first, step, count, &mut out.values);
+            }
             Values::Kept(cells) => cells.values(first, step, count, out),
         }
     }
@@ -122,11 +126,11 @@ impl<'g> Lines<'g> {
     }
 
     /// The values of at most 64 lines from a line on in a column, each in its place.
-    pub fn values(&self, first: usize, count: usize, column: usize, out: &mut [Value<'g>; 64])
+    pub fn values(&self, first: usize, count: usize, column: usize, out: &mut Lane<'g>)
         requires few { count ≤ 64 }
         requires lines { first + count ≤ length self.now }
         requires column { All (λ line. column < length line) self.now }
-        ensures { (k : ℕ) → k < count → val (slice_index_or out.new k value.Null)
+        ensures { (k : ℕ) → k < count → lane_val out.new k
             ≡ slice_index_or (slice_index_or self.now (first + k) []) column null }
     {
         if count > 0 {
@@ -205,13 +209,21 @@ impl<'g> Listing<'g> {
         self.lines.value(row, column)
     }
 
+    /// Whether the values are kept as numbers. Then it pays to read those of many lines at once.
+    pub fn is_kept(&self) -> bool {
+        match &self.lines.values {
+            Values::Made(_) => false,
+            Values::Kept(_) => true,
+        }
+    }
+
     /// The values of at most 64 lines from a line on, counted from 0, in a column, each in its place:
     /// read in one loop, where they are kept in one way.
-    pub fn values(&self, first: usize, count: usize, column: usize, out: &mut [Value<'g>; 64])
+    pub fn values(&self, first: usize, count: usize, column: usize, out: &mut Lane<'g>)
         requires few { count ≤ 64 }
         requires lines { first + count ≤ length self.now.lines }
         requires column { All (λ line. column < length line) self.now.lines }
-        ensures { (k : ℕ) → k < count → val (slice_index_or out.new k value.Null)
+        ensures { (k : ℕ) → k < count → lane_val out.new k
             ≡ slice_index_or (slice_index_or self.now.lines (first + k) []) column null }
     {
         self.lines.values(first, count, column, out);

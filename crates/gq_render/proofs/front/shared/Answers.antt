@@ -1,13 +1,12 @@
-use Rattle.std.proofs.Common.{◌≡◌, ◌≤◌, ◌+◌, [], take, ap, sym, ◌∙◌, arith}
-use Rattle.std.specs.Prelude.{slice_index_or}
+use Rattle.std.proofs.Common.{◌≤◌, ◌+◌, take, ap, sym, ◌∙◌, arith}
+use Rattle.gq_render.specs.steps.Blocks.{line_of}
 use Rattle.std.proofs.lemmas.List.{take-take}
 use Rattle.gq_render.proofs.front.shared.Goals as goal
 
 pub loop-column-init : goal.loop-column-init
 loop-column-init c =
-    let lines = c.args.listing.now.lines in
-    let line = slice_index_or lines c.args.row [] in
-    let next = slice_index_or lines (c.args.row + 1) [] in
+    let line = line_of c.args.block.now c.args.row in
+    let next = line_of c.args.block.now (c.args.row + 1) in
     let few = c.min-column.result in
     let count = c.staying.result in
     let le : few ≤ count = omega (arith, c.min-column.ensures) in

@@ -1,7 +1,7 @@
-use Rattle.std.proofs.Common.{◌≡◌, ◌+◌, [], take}
-use Rattle.std.specs.Prelude.{slice_index_or}
+use Rattle.std.proofs.Common.{◌≡◌, ◌+◌, take}
+use Rattle.gq_render.specs.steps.Blocks.{line_of}
 use Rattle.gq_render.proofs.front.shared.Given as goal
 
 abbrev pub invariant-loop-column : goal.invariant-loop-column
 invariant-loop-column l =
-    take l.column (slice_index_or l.listing.lines l.row []) ≡ take l.column (slice_index_or l.listing.lines (l.row + 1) [])
+    take l.column (line_of l.block l.row) ≡ take l.column (line_of l.block (l.row + 1))

@@ -6,4 +6,4 @@ pub returns-in_err-put_tab-clause-bytes : goal.returns-in_err-put_tab-clause-byt
 returns-in_err-put_tab-clause-bytes g c = first_broke _ _ _ _ _ _ _ _ _ _ _ _ c.put_tab.ensures.bytes c.in_err-put_tab.was c.from_residual.ensures.1 refl
 
 pub returns-clause-bytes : goal.returns-clause-bytes
-returns-clause-bytes g c = puts_then _ _ _ _ _ _ _ _ _ _ c.in_ok-put_tab.ensures.bytes c.put_value.ensures.bytes refl
+returns-clause-bytes g c = puts_then _ _ _ _ _ _ _ _ _ _ c.in_ok-put_tab.ensures.bytes c.put_at.ensures.bytes refl

@@ -1,7 +1,7 @@
 use Rattle.std.proofs.Common.{◌≡◌, ◌<◌, ◌≤◌, ◌+◌, ◌∙◌, [], length, get_or, sym, subst, arith}
 use Rattle.std.specs.List.{All}
-use Rattle.gq_base.specs.Values.{null, val}
-use Rattle.gq_base.specs.declared.value.Value.TheVariants as value
+use Rattle.gq_base.specs.Values.{null}
+use Rattle.gq_cells.specs.Lanes.{lane_val}
 use Rattle.gq_rows.proofs.CutLines.{lines_len, value_behind, value_within}
 use Rattle.gq_rows.specs.steps.Lines.{lines_of}
 use Rattle.gq_rows.proofs.listing.Lines.values.Goals as goal
@@ -42,5 +42,5 @@ returns-then-count-gt0 c = λ k lt.
     let few = subst (λ v. c.args.first + c.args.count ≤ length v) (sym c.self.view_is) c.requires.lines in
     let wide = subst (λ v. All (λ line. c.args.column < length line) v) (sym c.self.view_is) c.requires.column in
     let below : c.args.first + k < length (lines_of l) = omega (arith, few, lt) in
-    subst (λ v. val (get_or c.values.new.out k value.Null) ≡ get_or (get_or v (c.args.first + k) []) c.args.column null) c.self.view_is
+    subst (λ v. lane_val c.values.new.out k ≡ get_or (get_or v (c.args.first + k) []) c.args.column null) c.self.view_is
     (c.values.ensures k lt ∙ (value_behind l c.self.invariant c.args.first k c.args.column below (wide (c.args.first + k) [] below)).1)
