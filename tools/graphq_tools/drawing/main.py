@@ -15,6 +15,7 @@ from ..program import found_program
 from ..replies import Lines, Refused, Rows, read_reply
 from ..session import Ended, Session
 from ..statements import in_bytes, split
+from ..words import words_of
 from .pictures import draw_rows, picture
 from .plans import draw_plan
 from .spent import profiled, read_spent
@@ -41,11 +42,8 @@ FORMS = (".svg", ".png", ".pdf", ".dot")
 
 def parser() -> argparse.ArgumentParser:
     """The parser of the command line."""
-    top = argparse.ArgumentParser(
-        prog="graphq-draw",
-        description="Draws the nodes and relationships of a query's rows, or a plan, as SVG, PNG or PDF.",
-        epilog=_EXAMPLES,
-        formatter_class=argparse.RawDescriptionHelpFormatter,
+    top = words_of(
+        "graphq-draw", "Draws the nodes and relationships of a query's rows, or a plan, as SVG, PNG or PDF.", _EXAMPLES
     )
     top.add_argument(
         "query",

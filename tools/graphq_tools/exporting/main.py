@@ -8,6 +8,7 @@ from collections.abc import Sequence
 from ..manifest import read_manifest
 from ..outcome import Status
 from ..output import new_folder
+from ..words import words_of
 from .graphframes import export_graphframes
 from .graphml import export_graphml
 from .kuzu import export_kuzu
@@ -33,12 +34,7 @@ written, 6 no memory. docs/tools/graphq-export.md has more."""
 
 def parser() -> argparse.ArgumentParser:
     """The parser of the command line."""
-    top = argparse.ArgumentParser(
-        prog="graphq-export",
-        description="Writes a graph that graphq loads in the form of another system.",
-        epilog=_EXAMPLES,
-        formatter_class=argparse.RawDescriptionHelpFormatter,
-    )
+    top = words_of("graphq-export", "Writes a graph that graphq loads in the form of another system.", _EXAMPLES)
     top.add_argument("form", choices=("kuzu", "neo4j", "sqlite", "postgresql", "graphframes", "graphml", "csv"))
     top.add_argument("--manifest", required=True, metavar="PATH", help="the graph")
     top.add_argument("--out", required=True, metavar="FOLDER", help="a new folder for what is written")

@@ -9,6 +9,7 @@ from collections.abc import Sequence
 
 from ..outcome import Refusal, Status, typed
 from ..output import new_folder
+from ..words import words_of
 from . import csv_files, edges, kuzu, neo4j, networkx_files
 from .blocks import Form, one_separator
 from .intake import Intake, intake
@@ -73,12 +74,7 @@ def _add_labels(words: argparse.ArgumentParser) -> None:
 
 def parser() -> argparse.ArgumentParser:
     """The parser of the command line."""
-    top = argparse.ArgumentParser(
-        prog="graphq-import",
-        description="Makes a graph that graphq loads out of a graph in another form.",
-        epilog=_EXAMPLES,
-        formatter_class=argparse.RawDescriptionHelpFormatter,
-    )
+    top = words_of("graphq-import", "Makes a graph that graphq loads out of a graph in another form.", _EXAMPLES)
     forms = top.add_subparsers(dest="form", required=True, metavar="FORM")
     common = _common()
 

@@ -7,6 +7,7 @@ from collections.abc import Sequence
 
 from ..program import found_program
 from ..session import Session
+from ..words import words_of
 from .commands import HELP, command_of
 from .formats import FORMATS
 from .lines import lines_of
@@ -26,12 +27,7 @@ docs/tools/graphq-shell.md has more."""
 
 def parser() -> argparse.ArgumentParser:
     """The parser of the command line."""
-    top = argparse.ArgumentParser(
-        prog="graphq-shell",
-        description="A prompt for graphq: history, completion, tables, hints, times.",
-        epilog=_EXAMPLES,
-        formatter_class=argparse.RawDescriptionHelpFormatter,
-    )
+    top = words_of("graphq-shell", "A prompt for graphq: history, completion, tables, hints, times.", _EXAMPLES)
     top.add_argument("--manifest", required=True, metavar="PATH", help="the graph")
     top.add_argument("--order", choices=("given", "greedy", "least"), help="as graphq has it")
     top.add_argument("--rows", metavar="N", help="as graphq has it")
