@@ -1,5 +1,5 @@
 //! A graph as queries read it.
-ghost use Rattle.std.specs.Prelude.{◌≡◌, ◌≢◌, ◌+◌, ◌<◌, ◌≤◌, ◌^◌, true, false, length};
+ghost use Rattle.std.specs.Prelude.{◌≡◌, ◌≢◌, ◌+◌, ◌<◌, ◌≤◌, ◌^◌, ℕ, true, false, length};
 ghost use Rattle.std.specs.Prelude.{slice_get, All, IfOk, IfSome, Some, None};
 ghost use Rattle.gq_adj.specs.Adjacent.{targets};
 ghost use Rattle.gq_base.specs.Directions.{opposite};
@@ -13,12 +13,14 @@ ghost use Rattle.gq_store.specs.Neighbours.{is_listed, mult_at, near_ends, near_
 ghost use Rattle.gq_store.specs.Neighbours.{numbers};
 ghost use Rattle.gq_store.specs.Places.{by_source, first_number, number_at};
 ghost use Rattle.gq_store.specs.RelColumns.{rel_cells};
+ghost use Rattle.gq_store.specs.Singles.{AreSingles};
 ghost use Rattle.gq_store.specs.steps.Stored.{IsLinked, IsSide};
 
 use crate::building::{all_nodes, all_rels};
 use crate::links::{Links, Places, Side};
 use crate::property::{Property, TableCells};
 use gq_base::{Catalog, Direction, Memory, Value};
+use gq_edges::Single;
 use gq_plain::PlainGraph;
 use std::alloc::Global;
 use std::marker::Model;
@@ -159,6 +161,19 @@ impl Graph {
         }
     }
 
+    /// The rows that the relationships of a table lead to, for each row the one of its only
+    /// relationship, where a row has one at most: found once for many rows.
+    pub fn singles(&self, rel: u32, direction: Direction) -> &Single
+        requires within { rel < length self.now.catalog.rels }
+        requires single { is_listed self.now rel direction ≡ false }
+        ensures { AreSingles self.now rel direction result.now }
+    {
+        match self.side(rel, direction) {
+            Side::Listed(_) => unreachable!(),
+            Side::Single(column) => column,
+        }
+    }
+
     /// The place of a row's relationship, by its position among the row's relationships in a
     /// direction.
     pub fn edge_place(&self, rel: u32, direction: Direction, row: u32, position: u32) -> u32
@@ -176,6 +191,24 @@ impl Graph {
                 Direction::Forward => self.forward_place(rel, row, position),
                 Direction::Backward => self.backward_place(rel, row, position),
             },
+        }
+    }
+
+    /// The place of the first of a source's relationships, where the others' places follow it.
+    pub fn first_place(&self, rel: u32, row: u32) -> Option<u32>
+        requires within { rel < length self.now.catalog.rels }
+        requires row { row < near_rows self.now rel Direction.Forward }
+        ensures { IfSome result (λ low. (k : ℕ) → k < length (neighbours self.now rel
+            Direction.Forward row) → number_at self.now rel (low + k)
+            ≡ slice_get (numbers self.now rel Direction.Forward row) k) }
+    {
+        let links = self.links(rel);
+        let Places::Paged(_) = &links.places else {
+            return None;
+        };
+        match &links.forward {
+            Side::Listed(lists) => Some(lists.start(row)),
+            Side::Single(_) => None,
         }
     }
 
