@@ -1,5 +1,7 @@
 //! Conditions on a relationship, decided by the place at which it stands.
-ghost use Rattle.std.specs.Prelude.{◌≡◌, ◌<◌, IfSome, IsTrue, false, true};
+ghost use Rattle.std.specs.Prelude.{◌≡◌, ◌+◌, ◌-◌, ◌<◌, ◌≤◌, ℕ, IfSome, IsTrue, false, length};
+ghost use Rattle.std.specs.Prelude.{true};
+ghost use Rattle.gq_bits.specs.Places.{is_marked};
 ghost use Rattle.gq_filter.specs.Placed.{Passes, Refuses};
 ghost use Rattle.gq_filter.specs.steps.Placing.{ArePlaced, IsPlaced, IsPlacementOf, IsTestOf};
 
@@ -7,6 +9,8 @@ use crate::cells::holds_at;
 use crate::lane_test::LaneTest;
 use crate::row_lists::ColumnCells;
 use crate::source::Feed;
+use crate::spans::keep_span;
+use gq_bits::{Marks, VECTOR};
 use gq_plan::Variable;
 
 /// A test of lanes of one relationship variable. Its cells stand by place, so that it is asked
@@ -33,6 +37,38 @@ impl PlacedTest<'_> {
             row: place,
         };
         holds_at(self.test, &cells)
+    }
+
+    /// The end of so many places from one on, if all of them have cells: each tells whether it passes.
+    pub fn end_of(&self, low: u32, count: u32) -> Option<u32>
+        ensures { IfSome result (λ high. (high ≡ low + count) × (high ≤ self.now.places)) }
+    {
+        match low.checked_add(count) {
+            None => None,
+            Some(high) => {
+                if high > self.places {
+                    return None;
+                }
+                Some(high)
+            }
+        }
+    }
+
+    /// Of the marked ones of the places from one on to before another, which have cells, keeps those
+    /// that pass.
+    pub fn keep(&self, low: u32, high: u32, marks: &mut Marks)
+        requires ordered { low ≤ high }
+        requires few { high - low ≤ VECTOR }
+        requires inside { high ≤ self.now.places }
+        requires within { (k : ℕ) → high - low ≤ k → is_marked marks.old k ≡ false }
+        ensures whole { length marks.new ≡ VECTOR }
+        ensures kept { (k : ℕ) → is_marked marks.new k ≡ true →
+            (is_marked marks.old k ≡ true) × Passes self.now (low + k) }
+        ensures dropped { (k : ℕ) → is_marked marks.old k ≡ true → is_marked marks.new k ≡ false →
+            Refuses self.now (low + k) }
+    {
+        keep_span(self.test, self.feeds, low, high - low, marks);
+        let _whole = marks.word(0);
     }
 
     /// Whether the relationship at a place, if it may pass, passes.
