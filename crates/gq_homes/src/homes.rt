@@ -2,7 +2,6 @@
 ghost use Rattle.std.specs.Prelude.{◌≡◌, ◌∷◌, ◌++◌, ◌<◌, ◌^◌, [], length, All, IfOk, OnOk};
 ghost use Rattle.std.specs.Option.{option_copied};
 ghost use Rattle.gq_law_groups.specs.Order.{AreCut};
-ghost use Rattle.gq_plan.specs.Halves.{half_of};
 ghost use Rattle.gq_plan.specs.Plans.{step_of};
 ghost use Rattle.gq_group.specs.declared.home.NodeHome.TheVariants.{Column};
 ghost use Rattle.gq_group.specs.declared.home.RelHome.TheVariants.{Kept};
@@ -11,14 +10,15 @@ ghost use Rattle.gq_homes.specs.steps.Housing.{AreHoused, CanHouse, CanHouseBuil
 ghost use Rattle.gq_homes.specs.steps.Housing.{brought_by, fillings_of, housed, not_in};
 ghost use Rattle.gq_homes.specs.steps.Housing.{set_numbered, with_build, with_column};
 ghost use Rattle.gq_homes.specs.steps.Housing.{with_filling, with_node_home};
+ghost use Rattle.gq_steps.specs.Actions.{step_by};
 ghost use Rattle.gq_steps.specs.Groups.{Tiles, group_at, groups_in};
 ghost use Rattle.gq_steps.specs.Moves.{run_of, IsRun};
 
 use gq_base::{Direction, List, Memory};
 use gq_group::{Homes, NodeHome, RelHome};
 use gq_join::Sealed;
-use gq_plan::{Half, Step, has_number};
-use gq_steps::{GroupSteps, PlanRun};
+use gq_plan::{Step, has_number};
+use gq_steps::{Action, GroupSteps, PlanRun, join_keys};
 use std::alloc::Global;
 
 /// A column of a group.
@@ -119,7 +119,7 @@ fn house_group(
         let build = plan_run.build_at(step);
         house(
             plan_run.step(step),
-            plan_run.half(step),
+            plan_run.action(step),
             build,
             spot,
             housing,
@@ -129,60 +129,52 @@ fn house_group(
     Ok(())
 }
 
-// Puts what a step of a group binds, as much of it as runs, into the group.
-#[tactic(auto, using(gq_plan::proofs::StepEquations::equations))]
+// Puts what a step of a group binds, by what it does, into the group.
 fn house(
     step: &Step,
-    half: Half,
+    action: Action,
     build: Option<&Sealed>,
     spot: Spot,
     housing: &mut Housing,
 ) -> Result<(), Memory>
-    requires { CanHouse (option_copied build) housing.old.homes (half_of half (step_of step.now)) }
+    requires { CanHouse (option_copied build) housing.old.homes (step_by action (step_of step.now)) }
     ensures homes { OnOk result (housing.new.homes ≡ housed (option_copied build.entry) spot.group
-        (length housing.old.fillings.items) (half_of half (step_of step.now))
+        (length housing.old.fillings.items) (step_by action (step_of step.now))
         housing.old.homes) }
     ensures fillings { OnOk result (housing.new.fillings.items ≡
         with_filling (option_copied build.entry) spot.group spot.depth
-        (half_of half (step_of step.now)) housing.old.fillings.items) }
+        (step_by action (step_of step.now)) housing.old.fillings.items) }
 {
     let group = spot.group;
     let nodes = &mut housing.homes.nodes;
     let rels = &mut housing.homes.rels;
-    match step {
-        Step::Scan { node } => nodes.set(*node as usize, NodeHome::Item { group }),
-        Step::Extend {
-            rel,
-            from,
-            to,
-            direction,
-        } => {
-            nodes.set(*to as usize, NodeHome::Item { group });
-            rels.set(*rel as usize, listed(group, *from, *direction));
+    match action {
+        Action::Scan(node) => nodes.set(node as usize, NodeHome::Item { group }),
+        Action::List(follow) => {
+            nodes.set(follow.to as usize, NodeHome::Item { group });
+            rels.set(
+                follow.rel as usize,
+                listed(group, follow.from, follow.direction),
+            );
         }
-        Step::Close {
-            rel,
-            from,
-            to: _,
-            direction,
-        } => rels.set(*rel as usize, listed(group, *from, *direction)),
-        Step::ColumnExtend {
-            rel,
-            from,
-            to,
-            direction,
-        } => return house_column(leading_of(group, *rel, *from, *direction), *to, housing),
-        Step::ColumnClose {
-            rel,
-            from,
-            to: _,
-            direction,
-        } => match half {
-            Half::Whole | Half::First => rels.set(*rel as usize, single(*from, *direction)),
-            Half::Second => {}
-        },
-        Step::Join { side: _, keys } => return house_build(build, keys.as_slice(), spot, housing),
-        Step::Keep { .. } | Step::Differ { .. } | Step::NoLoop { .. } => {}
+        Action::Close(follow) => {
+            rels.set(
+                follow.rel as usize,
+                listed(group, follow.from, follow.direction),
+            );
+        }
+        Action::Column(follow) => {
+            let leading = leading_of(group, follow.rel, follow.from, follow.direction);
+            return house_column(leading, follow.to, housing);
+        }
+        Action::ColumnClose(follow) => {
+            rels.set(follow.rel as usize, single(follow.from, follow.direction));
+        }
+        Action::Take(follow) => {
+            rels.set(follow.rel as usize, single(follow.from, follow.direction));
+        }
+        Action::Join => return house_build(build, join_keys(step), spot, housing),
+        Action::Meet(_) | Action::Test(_) | Action::Differ(_) | Action::NoLoop(_) => {}
     }
     Ok(())
 }

@@ -135,11 +135,11 @@ columns_halved y (s ∷ ss) = columns_halves y s (flat_map halves ss) ∙ ap (λ
 
 -- ---- a step more
 
-pub steps_more : (ss : List code.Step) (qs : List StepHalf) (k : ℕ) (rs : List RunStep) (r : RunStep) (q : StepHalf) → k < length qs → q ≡ get_or qs k q → q.step < length ss → r.step.now ≡ get_or ss q.step r.step.now → r.half ≡ q.half
+pub steps_more : (ss : List code.Step) (qs : List StepHalf) (k : ℕ) (rs : List RunStep) (r : RunStep) (q : StepHalf) (s : code.Step) → k < length qs → q ≡ get_or qs k q → q.step < length ss → s ≡ get_or ss q.step s → run_step r ≡ half_of q.half (step_of s)
     → run_steps rs ≡ map (half_in (map step_of ss)) (take k qs) → run_steps (rs ++ r ∷ []) ≡ map (half_in (map step_of ss)) (take (k + 1) qs)
-steps_more ss qs k rs r q low is inside there half so_far =
+steps_more ss qs k rs r q s low is inside there runs so_far =
     map-append run_step rs (r ∷ [])
     ∙ ap₂ (λ l t. l ++ t ∷ []) so_far
-    (ap₂ half_of half (ap step_of there ∙ sym (get_or-map step_of ss q.step r.step.now (Keep 0) inside)))
+    (runs ∙ ap (half_of q.half) (ap step_of there ∙ sym (get_or-map step_of ss q.step s (Keep 0) inside)))
     ∙ sym (map-append (half_in (map step_of ss)) (take k qs) (q ∷ []))
     ∙ ap (map (half_in (map step_of ss))) (ap (λ z. take k qs ++ z ∷ []) is ∙ sym (take_more qs k q low))

@@ -24,10 +24,7 @@ pub(crate) fn steps_in_order<'g>(
     let mut ordered = Vec::with_capacity(alloc, order.len())?;
     for half in order {
         let step = &steps[half.step];
-        ordered.push(RunStep {
-            step,
-            half: half.half,
-        })?;
+        ordered.push(RunStep::new(step, half.half))?;
     }
     Ok(ordered)
 }

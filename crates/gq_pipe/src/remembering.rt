@@ -6,8 +6,8 @@ ghost use Rattle.gq_plan.specs.Soundness.{IsSound};
 
 use gq_base::Memory;
 use gq_filter::{RowTest, row_tests};
-use gq_plan::{Step, Typed};
-use gq_steps::RunStep;
+use gq_plan::Typed;
+use gq_steps::{Action, RunStep};
 use gq_store::Graph;
 use std::alloc::Global;
 
@@ -38,10 +38,10 @@ fn remember(alloc: Global, steps: &[RunStep<'_>], tests: &mut Vec<RowTest<'_>>)
     let mut room = ROOM;
     let mut near = None;
     for part in steps {
-        match part.step {
-            Step::Extend { to, .. } => near = Some(*to),
-            Step::Keep { test } => room -= remember_test(alloc, *test, near, room, tests),
-            Step::Differ { .. } | Step::NoLoop { .. } => {}
+        match part.action {
+            Action::List(follow) => near = Some(follow.to),
+            Action::Test(test) => room -= remember_test(alloc, test, near, room, tests),
+            Action::Differ(_) | Action::NoLoop(_) => {}
             _ => near = None,
         }
     }

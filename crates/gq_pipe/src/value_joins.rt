@@ -13,9 +13,9 @@ ghost use Rattle.gq_steps.specs.steps.Outcomes.{passes_at};
 use gq_dict::Dict;
 use gq_filter::{EqualColumns, NodeColumn};
 use gq_join::Sealed;
-use gq_plan::{Assignment, Step};
+use gq_plan::Assignment;
 use gq_same_texts::{EqualTexts, equal_texts};
-use gq_steps::{GroupSteps, PlanRun};
+use gq_steps::{Action, GroupSteps, PlanRun};
 
 /// The build of a join, and what a test of its group asks to be equal.
 #[derive(Clone, Copy)]
@@ -74,8 +74,8 @@ fn build_of<'g>(plan_run: &PlanRun<'g>, depth: usize) -> Option<&'g Sealed>
     if depth >= plan_run.builds.len() {
         return None;
     }
-    match plan_run.step(depth) {
-        Step::Join { .. } => plan_run.build_at(depth),
+    match plan_run.action(depth) {
+        Action::Join => plan_run.build_at(depth),
         _ => None,
     }
 }
@@ -87,10 +87,10 @@ fn is_test(plan_run: &PlanRun<'_>, depth: usize) -> bool
     if depth >= plan_run.steps.len() {
         return false;
     }
-    match plan_run.step(depth) {
-        Step::Keep { .. } => true,
-        Step::Differ { .. } => true,
-        Step::NoLoop { .. } => true,
+    match plan_run.action(depth) {
+        Action::Test(_) => true,
+        Action::Differ(_) => true,
+        Action::NoLoop(_) => true,
         _ => false,
     }
 }
@@ -175,8 +175,8 @@ pub(crate) fn test_at(plan_run: &PlanRun<'_>, depth: usize) -> Option<u32>
     if depth >= plan_run.steps.len() {
         return None;
     }
-    match plan_run.step(depth) {
-        Step::Keep { test } => Some(*test),
+    match plan_run.action(depth) {
+        Action::Test(test) => Some(test),
         _ => None,
     }
 }

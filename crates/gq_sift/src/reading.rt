@@ -11,8 +11,8 @@ ghost use Rattle.gq_steps.specs.Moves.{run_of, steps_in};
 
 use gq_chains::test_at;
 use gq_join::Sealed;
-use gq_plan::{Follow, Known, Step};
-use gq_steps::{GroupSteps, PlanRun};
+use gq_plan::{Follow, Known};
+use gq_steps::{Action, GroupSteps, PlanRun, join_keys};
 
 // The most node variables of a query.
 const NODES: u32 = 24;
@@ -97,13 +97,13 @@ fn binds_one(plan_run: &PlanRun<'_>, depth: usize, reads: Known) -> bool {
     if depth >= plan_run.steps.len() || depth >= plan_run.builds.len() {
         return false;
     }
-    match plan_run.step(depth) {
-        Step::Scan { node } => reads.nodes.has(*node),
-        Step::Extend { to, .. } => reads.nodes.has(*to),
-        Step::ColumnExtend { to, .. } => reads.nodes.has(*to),
-        Step::Join { keys, .. } => match plan_run.build_at(depth) {
+    match plan_run.action(depth) {
+        Action::Scan(node) => reads.nodes.has(node),
+        Action::List(follow) => reads.nodes.has(follow.to),
+        Action::Column(follow) => reads.nodes.has(follow.to),
+        Action::Join => match plan_run.build_at(depth) {
             None => true,
-            Some(build) => joins_one(build, keys.as_slice(), reads),
+            Some(build) => joins_one(build, join_keys(plan_run.step(depth)), reads),
         },
         _ => false,
     }

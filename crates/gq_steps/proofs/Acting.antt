@@ -7,14 +7,13 @@ use Rattle.gq_plan.specs.Plans.{Plan, Step, Scan, Extend, Close, Join, Keep, Dif
 use Rattle.gq_plan.specs.declared.plan.Step as code
 use Rattle.gq_plan.specs.declared.halves.Half.{Half}
 use Rattle.gq_plan.specs.declared.halves.Half.TheVariants.{Whole, First, Second}
-use Rattle.gq_steps.specs.Actions.{action_of, followed, half_action}
+use Rattle.gq_steps.specs.Actions.{action_of, followed, half_action, step_by}
 use Rattle.gq_steps.specs.Levels.{step_at}
-use Rattle.gq_steps.specs.Moves.{run_of, run_step}
+use Rattle.gq_steps.specs.Moves.{run_of}
 use Rattle.gq_steps.specs.declared.action.Action.{Action}
 use Rattle.gq_steps.specs.declared.action.Action.TheVariants as act
 use Rattle.gq_plan.specs.declared.follow.Follow.{Follow}
 use Rattle.gq_steps.specs.declared.plan_run.PlanRun.{PlanRun}
-use Rattle.gq_steps.specs.declared.plan_run.RunStep.{RunStep}
 
 -- as much of a column close as runs
 pub half_acts : (h : Half) (x from to : ℕ) (way : Direction) → action_of (close_half h x from to way) ≡ half_action h (followed x from to way)
@@ -23,8 +22,41 @@ half_acts First x from to way = refl
 half_acts Second x from to way = refl
 
 -- a step of the program, as much of it as runs
-pub acted : (r : RunStep) (s : code.Step) (t : Step) → r.step.now ≡ s → step_of s ≡ t → action_of (run_step r) ≡ action_of (half_of r.half t)
-acted r s t is same = ap (λ x. action_of (half_of r.half (step_of x))) is ∙ ap (λ x. action_of (half_of r.half x)) same
+pub acted : (h : Half) (x s : code.Step) (t : Step) → x ≡ s → step_of s ≡ t → action_of (half_of h (step_of x)) ≡ action_of (half_of h t)
+acted h x s t is same = ap (λ y. action_of (half_of h (step_of y))) is ∙ ap (λ y. action_of (half_of h y)) same
+
+-- the step that does what was asked for does that
+pub acts_by : (a : Action) (s : Step) → action_of (step_by a s) ≡ a
+acts_by (act.Scan v) s = refl
+acts_by (act.List f) s = refl
+acts_by (act.Column f) s = refl
+acts_by (act.Close f) s = refl
+acts_by (act.ColumnClose f) s = refl
+acts_by (act.Take f) s = refl
+acts_by (act.Meet f) s = refl
+acts_by act.Join s = refl
+acts_by (act.Test i) s = refl
+acts_by (act.Differ p) s = refl
+acts_by (act.NoLoop x) s = refl
+
+-- a step, as much of it as runs, is the step that does what it does
+close_by : (h : Half) (x from to : ℕ) (way : Direction) → step_by (action_of (close_half h x from to way)) (Close true x from to way) ≡ close_half h x from to way
+close_by Whole x from to way = refl
+close_by First x from to way = refl
+close_by Second x from to way = refl
+
+pub half_by : (h : Half) (s : Step) → step_by (action_of (half_of h s)) s ≡ half_of h s
+half_by h (Scan v) = refl
+half_by h (Extend false x from to way) = refl
+half_by h (Extend true x from to way) = refl
+half_by h (Close false x from to way) = refl
+half_by h (Close true x from to way) = close_by h x from to way
+half_by h (Join side keys) = refl
+half_by h (Keep i) = refl
+half_by h (Differ p) = refl
+half_by h (NoLoop x) = refl
+half_by h (Single x from to way) = refl
+half_by h (Meet x from to way) = refl
 
 -- a step does this
 abbrev pub Does : Action → Step → Type 0

@@ -1,8 +1,8 @@
 -- What a try of a step of each kind makes is what is said of the step at its depth.
 use Rattle.std.proofs.Common.{◌≡◌, ◌≢◌, inl, inr, ℕ, zero, suc, ◌<◌, ◌≤◌, Bool, true, false, cond, Some, None, List, [], ◌∷◌, map, length, get_or, slice_get, refl, sym, ap, ◌∙◌, subst, arith}
 use Rattle.std.proofs.lemmas.Bool.{and_parts}
-use Rattle.std.proofs.lemmas.List.{get_or-map, length-map}
-use Rattle.std.specs.Prelude.{slice_index, slice_index_or}
+use Rattle.std.proofs.lemmas.List.{length-map}
+use Rattle.std.specs.Prelude.{slice_index}
 use Rattle.std.specs.List.{list_any, range_with_len}
 use Rattle.std.proofs.lemmas.List.FromFn.{length-range_with_len}
 use Rattle.std.proofs.lemmas.Option.{slice_get_within}
@@ -13,27 +13,26 @@ use Rattle.gq_steps.specs.Tries.{tries}
 use Rattle.gq_steps.proofs.Followed.{rel, as_many}
 use Rattle.gq_base.specs.declared.direction.Direction.{Direction}
 use Rattle.gq_plan.specs.Covers.{after_step, fits_step, goes}
-use Rattle.gq_plan.specs.Flat.{is_join}
-use Rattle.gq_plan.specs.Halves.{close_half, half_of, runs_step}
+use Rattle.gq_plan.specs.Halves.{runs_step}
 use Rattle.gq_plan.specs.Known.{Known}
 use Rattle.gq_plan.specs.Meaning.{Partial, look, holds, far, arrive, with_rel, keep_if, rels_from, step}
-use Rattle.gq_plan.specs.Plans.{Step, Scan, Extend, Close, Join, Keep, Differ, NoLoop, Single, Meet, step_of}
-use Rattle.gq_plan.specs.declared.halves.Half.{Half}
-use Rattle.gq_plan.specs.declared.halves.Half.TheVariants.{Whole, First, Second}
+use Rattle.gq_plan.specs.Plans.{Step, Scan, Extend, Close, Keep, Single, Meet, step_of}
 use Rattle.gq_plan.specs.declared.plan.Step as code
+use Rattle.gq_steps.specs.Actions.{action_of, step_by}
 use Rattle.gq_steps.specs.Levels.{Run, step_at, built_at, known, before}
-use Rattle.gq_steps.specs.Moves.{run_step, run_steps, run_of, steps_in, halves_in, IsRun, IsHeld, IsTried}
-use Rattle.gq_steps.specs.steps.Outcomes.{IsScanned, IsExtended, IsClosed, IsTaken, IsMet, IsClosedAs, tested}
+use Rattle.gq_steps.specs.Moves.{run_step, run_steps, run_of, steps_in, IsRun, IsHeld, IsTried}
+use Rattle.gq_steps.specs.steps.Outcomes.{IsScanned, IsExtended, IsClosed, IsTaken, IsMet, tested}
 use Rattle.gq_steps.specs.Follows.{IsSized, CanFollow}
 use Rattle.gq_plan.specs.Rows.{node_at, node_table, rel_table}
 use Rattle.gq_plan.specs.declared.assignment.Assignment.{Assignment}
+use Rattle.gq_steps.specs.declared.action.Action.{Action}
 use Rattle.gq_steps.specs.declared.plan_run.PlanRun.{PlanRun}
 use Rattle.gq_steps.specs.declared.plan_run.RunStep.{RunStep}
 use Rattle.gq_plan.specs.declared.follow.Follow.{Follow}
 use Rattle.gq_steps.specs.declared.plan_run.Tried.{Tried}
 use Rattle.gq_steps.specs.declared.plan_run.Tried.TheVariants.{Past, Missed, Made}
-use Rattle.gq_law_groups.specs.Groups.{makes_group}
 use Rattle.gq_law_groups.proofs.Single.{from_small}
+use Rattle.gq_steps.proofs.Acting.{acts_by}
 use Rattle.gq_steps.proofs.Binding.{looks, fits_at}
 use Rattle.gq_steps.proofs.Testing.{test_tried}
 use Rattle.gq_steps.proofs.Stepping.{not_true, Makes, is_made, is_missed, is_past, scan_parts, scan_makes, scan_makes_none, Follows, follows, near_rows_are, scans, lists, met_is, extend_makes, extend_past, close_makes, close_misses, close_past, single_makes, single_past, meets_none, meets_one}
@@ -44,18 +43,12 @@ get_mapped [] d r low = absurd (omega arith)
 get_mapped (q ∷ rs) zero r low = refl
 get_mapped (q ∷ rs) (suc d) r low = get_mapped rs d r (omega arith)
 
+-- it is the one that does what is done there, and has the side plan and the keys of the planned one
 parts_mapped : (rs : List RunStep) (d : ℕ) (x : code.Step) → d < length rs
-    → get_or (run_steps rs) d (Keep 0) ≡ half_of (get_or (map (λ (r : RunStep). r.half) rs) d Whole) (step_of (get_or (map (λ (r : RunStep). r.step.now) rs) d x))
+    → get_or (run_steps rs) d (Keep 0) ≡ step_by (action_of (get_or (run_steps rs) d (Keep 0))) (step_of (get_or (map (λ (r : RunStep). r.step.now) rs) d x))
 parts_mapped [] d x low = absurd (omega arith)
-parts_mapped (q ∷ rs) zero x low = refl
+parts_mapped (q ∷ rs) zero x low = ap (λ (a : Action). step_by a (step_of q.step.now)) (sym (acts_by q.action (step_of q.step.now)))
 parts_mapped (q ∷ rs) (suc d) x low = parts_mapped rs d x (omega arith)
-
--- the step that is referred to at a depth, and how much of it runs
-pub step_read : (rs : List RunStep) (d : ℕ) (r : RunStep) → r ≡ get_or rs d r → d < length rs → get_or (map (λ (q : RunStep). q.step.now) rs) d r.step.now ≡ r.step.now
-step_read rs d r is low = get_or-map (λ (q : RunStep). q.step.now) rs d r r.step.now low ∙ ap (λ (q : RunStep). q.step.now) (sym is)
-
-pub half_read : (rs : List RunStep) (d : ℕ) (r : RunStep) → r ≡ get_or rs d r → d < length rs → r.half ≡ get_or (map (λ (q : RunStep). q.half) rs) d Whole
-half_read rs d r is low = ap (λ (q : RunStep). q.half) is ∙ sym (get_or-map (λ (q : RunStep). q.half) rs d r Whole low)
 
 pub as_many_steps : (k : PlanRun) → length (run_of k).steps ≡ length (steps_in k)
 as_many_steps k = length-map k.steps.items run_step ∙ sym (length-map k.steps.items (λ (r : RunStep). r.step.now))
@@ -63,40 +56,14 @@ as_many_steps k = length-map k.steps.items run_step ∙ sym (length-map k.steps.
 pub step_below : (k : PlanRun) (d n : ℕ) → n ≡ length k.steps.items → d < n → d < length (run_of k).steps
 step_below k d n is low = omega (arith, low, is, length-map k.steps.items run_step)
 
-abbrev pub half_at : PlanRun → ℕ → Half
-half_at k d = slice_index_or (halves_in k) d Whole
-
 module _ (k : PlanRun) (d : ℕ) (low : d < length (steps_in k)) where
-  pub step_is : (x s : code.Step) (t : Step) → get_or (steps_in k) d x ≡ s → step_of s ≡ t → step_at (run_of k) d ≡ half_of (half_at k d) t
-  step_is x s t is e =
+  pub step_is : (x s : code.Step) (a : Action) → get_or (steps_in k) d x ≡ s → a ≡ action_of (step_at (run_of k) d) → step_at (run_of k) d ≡ step_by a (step_of s)
+  step_is x s a is does =
       parts_mapped k.steps.items d x (omega (arith, low, length-map k.steps.items (λ (r : RunStep). r.step.now)))
-      ∙ ap (λ z. half_of (half_at k d) (step_of z)) is ∙ ap (half_of (half_at k d)) e
+      ∙ ap (λ z. step_by (action_of (step_at (run_of k) d)) (step_of z)) is ∙ ap (λ (b : Action). step_by b (step_of s)) (sym does)
 
   pub low_step : d < length (run_of k).steps
   low_step = omega (arith, low, as_many_steps k)
-
--- no half of a column close makes a group, or joins
-pub half_small : (h : Half) (x from to : ℕ) (way : Direction) → makes_group (close_half h x from to way) ≡ false
-half_small Whole x from to way = refl
-half_small First x from to way = refl
-half_small Second x from to way = refl
-
-pub half_makes : (h : Half) (s : Step) → makes_group (half_of h s) ≡ makes_group s
-half_makes h (Scan v) = refl
-half_makes h (Extend column x from to way) = refl
-half_makes h (Close true x from to way) = half_small h x from to way
-half_makes h (Close false x from to way) = refl
-half_makes h (Join side keys) = refl
-half_makes h (Keep i) = refl
-half_makes h (Differ p) = refl
-half_makes h (NoLoop x) = refl
-half_makes h (Single x from to way) = refl
-half_makes h (Meet x from to way) = refl
-
-pub half_joins : (h : Half) (x from to : ℕ) (way : Direction) → is_join (close_half h x from to way) ≡ false
-half_joins Whole x from to way = refl
-half_joins First x from to way = refl
-half_joins Second x from to way = refl
 
 -- a test is looked at at its one place only
 pub tested_past : (place : ℕ) (b p : Bool) → place ≢ 0 → tested place b ≡ tested place p
@@ -280,7 +247,7 @@ module _ (c : Run) (run : IsRun c) (d : ℕ) (low : d < length c.steps) (old : A
     abbrev meets : Follows c x from to way
     meets = follows c run true x from to way meet_goes
 
-    meet_can : CanFollow c.graph c.typed old (at x from to way)
+    pub meet_can : CanFollow c.graph c.typed old (at x from to way)
     meet_can = can x from to way meets meet_parts.0
 
     few : length (rels_from c.graph c.typed x way (look a.nodes from)) ≤ 1
@@ -293,24 +260,3 @@ module _ (c : Run) (run : IsRun c) (d : ℕ) (low : d < length c.steps) (old : A
     pub meet_tried : (place : ℕ) (met : Bool) → IsMet c.graph c.typed (at x from to way) old met → IsTried c d place old old (tested place met)
     unfolding tries step after_step
     meet_tried place met h = test_tried c d (Meet x from to way) is old held met refl refl (ap (λ b. keep_if b a ∷ []) (told_is met h)) place
-
-  -- a column close as it runs
-
-  module _ (h : Half) (x from to : ℕ) (way : Direction) where
-    pub half_can : step_at c d ≡ close_half h x from to way → CanFollow c.graph c.typed old (at x from to way)
-    half_can is = go h is
-      where
-        go : (h : Half) → step_at c d ≡ close_half h x from to way → CanFollow c.graph c.typed old (at x from to way)
-        go Whole is = close_can true x from to way is
-        go First is = single_can x from to way is
-        go Second is = meet_can x from to way is
-
-    pub half_tried : step_at c d ≡ close_half h x from to way → (place : ℕ) (new : Assignment) (told : Tried) → IsClosedAs h c.graph c.typed (at x from to way) place old new told → IsTried c d place old new told
-    half_tried is place new told closed = go h is closed
-      where
-        go : (h : Half) → step_at c d ≡ close_half h x from to way → IsClosedAs h c.graph c.typed (at x from to way) place old new told → IsTried c d place old new told
-        go Whole is closed = close_tried true x from to way is place new told closed
-        go First is closed = single_tried x from to way is place new told closed
-        go Second is closed =
-            subst (λ t. IsTried c d place old new t) (sym closed.1.2)
-            (subst (λ (row : Assignment). IsTried c d place old row (tested place closed.1.0)) (sym closed.0) (meet_tried x from to way is place closed.1.0 closed.1.1))

@@ -1,6 +1,6 @@
 -- What a step does, told apart by kinds.
-use Rattle.std.specs.Prelude.{ℕ, true, false}
-use Rattle.gq_plan.specs.Plans.{Step, Scan, Extend, Close, Join, Keep, Differ, NoLoop, Single, Meet}
+use Rattle.std.specs.Prelude.{ℕ, true, false, List, []}
+use Rattle.gq_plan.specs.Plans.{Plan, Done, Step, Scan, Extend, Close, Join, Keep, Differ, NoLoop, Single, Meet}
 use Rattle.gq_plan.specs.declared.halves.Half.{Half}
 use Rattle.gq_plan.specs.declared.halves.Half.TheVariants.{Whole, First, Second}
 use Rattle.gq_base.specs.declared.direction.Direction.{Direction}
@@ -30,3 +30,26 @@ abbrev pub half_action : Half → Follow → Action
 half_action Whole f = act.ColumnClose f
 half_action First f = act.Take f
 half_action Second f = act.Meet f
+
+-- the side plan and the keys of a step, if it is a join
+abbrev pub side_of : Step → Plan
+side_of (Join side keys) = side
+side_of s = Done
+
+abbrev pub keys_of : Step → List ℕ
+keys_of (Join side keys) = keys
+keys_of s = []
+
+-- the step that does this; a join has the side plan and the keys of a step that is told
+abbrev pub step_by : Action → Step → Step
+step_by (act.Scan v) s = Scan v
+step_by (act.List f) s = Extend false f.rel f.from f.to f.direction
+step_by (act.Column f) s = Extend true f.rel f.from f.to f.direction
+step_by (act.Close f) s = Close false f.rel f.from f.to f.direction
+step_by (act.ColumnClose f) s = Close true f.rel f.from f.to f.direction
+step_by (act.Take f) s = Single f.rel f.from f.to f.direction
+step_by (act.Meet f) s = Meet f.rel f.from f.to f.direction
+step_by act.Join s = Join (side_of s) (keys_of s)
+step_by (act.Test i) s = Keep i
+step_by (act.Differ p) s = Differ p
+step_by (act.NoLoop x) s = NoLoop x

@@ -4,13 +4,13 @@ use Rattle.std.specs.Option.{option_copied}
 use Rattle.gq_base.specs.Valid.{is_valid, row_count}
 use Rattle.gq_filter.specs.RowTests.{conditions_of}
 use Rattle.gq_join.specs.Kept.{Held}
-use Rattle.gq_plan.specs.Halves.{Runs, half_of}
+use Rattle.gq_plan.specs.Halves.{Runs}
 use Rattle.gq_plan.specs.Known.{Known}
 use Rattle.gq_plan.specs.Meaning.{Partial}
 use Rattle.gq_plan.specs.Soundness.{IsSound}
 use Rattle.gq_plan.specs.Plans.{Step, steps, step_of}
-use Rattle.gq_plan.specs.declared.halves.Half.{Half}
 use Rattle.gq_plan.specs.declared.plan.Step as code
+use Rattle.gq_steps.specs.Actions.{step_by}
 use Rattle.gq_steps.specs.Built.{AreBuilds}
 use Rattle.gq_steps.specs.Levels.{Run, step_at, built_at, taken, known, before}
 use Rattle.gq_plan.specs.Rows.{node_table}
@@ -21,19 +21,16 @@ use Rattle.gq_steps.specs.declared.plan_run.RunStep.{RunStep}
 use Rattle.gq_steps.specs.declared.plan_run.Tried.{Tried}
 use Rattle.gq_steps.specs.declared.plan_run.Tried.TheVariants.{Past, Missed, Made}
 
--- a step as it runs
+-- a step as it runs: what it does was found as the pipeline started
 abbrev pub run_step : RunStep → Step
-run_step r = half_of r.half (step_of r.step.now)
+run_step r = step_by r.action (step_of r.step.now)
 
 abbrev pub run_steps : List RunStep → List Step
 run_steps rs = map run_step rs
 
--- the steps of a plan in the order in which they run, how much of each runs, and their builds
+-- the steps of a plan in the order in which they run, and their builds
 abbrev pub steps_in : PlanRun → List code.Step
 steps_in c = map (λ (r : RunStep). r.step.now) c.steps.items
-
-abbrev pub halves_in : PlanRun → List Half
-halves_in c = map (λ (r : RunStep). r.half) c.steps.items
 
 abbrev pub builds_in : PlanRun → List (Option Held)
 builds_in c = map option_copied c.builds.items

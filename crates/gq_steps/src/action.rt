@@ -1,6 +1,8 @@
 //! What the steps of a plan do, told apart in one place.
 ghost use Rattle.std.specs.Prelude.{◌≡◌, ◌<◌, length};
-ghost use Rattle.gq_steps.specs.Actions.{action_of, half_action};
+ghost use Rattle.gq_plan.specs.Halves.{half_of};
+ghost use Rattle.gq_plan.specs.Plans.{step_of};
+ghost use Rattle.gq_steps.specs.Actions.{action_of, half_action, keys_of};
 ghost use Rattle.gq_steps.specs.Levels.{step_at};
 ghost use Rattle.gq_steps.specs.Moves.{run_of, run_step, steps_in};
 
@@ -35,43 +37,14 @@ pub enum Action {
     NoLoop(u32),
 }
 
-impl RunStep<'_> {
-    /// What the step does.
-    #[inline(always)]
-    pub fn action(&self) -> Action
-        ensures { result ≡ action_of (run_step self.now) }
+impl<'g> RunStep<'g> {
+    /// A step of a plan, as much of it as runs: what it does is found here, once for all.
+    pub fn new(step: &'g Step, half: Half) -> RunStep<'g>
+        ensures step { result.step.now ≡ step.now }
+        ensures runs { run_step result ≡ half_of half (step_of step.now) }
     {
-        match self.step {
-            Step::Scan { node } => Action::Scan(*node),
-            Step::Extend {
-                rel,
-                from,
-                to,
-                direction,
-            } => Action::List(following(*rel, *from, *to, *direction)),
-            Step::ColumnExtend {
-                rel,
-                from,
-                to,
-                direction,
-            } => Action::Column(following(*rel, *from, *to, *direction)),
-            Step::Close {
-                rel,
-                from,
-                to,
-                direction,
-            } => Action::Close(following(*rel, *from, *to, *direction)),
-            Step::ColumnClose {
-                rel,
-                from,
-                to,
-                direction,
-            } => half_action(self.half, following(*rel, *from, *to, *direction)),
-            Step::Join { .. } => Action::Join,
-            Step::Keep { test } => Action::Test(*test),
-            Step::Differ { pair } => Action::Differ(*pair),
-            Step::NoLoop { rel } => Action::NoLoop(*rel),
-        }
+        let action = action_of(step, half);
+        RunStep { step, action }
     }
 }
 
@@ -83,12 +56,61 @@ impl PlanRun<'_> {
         ensures { result ≡ action_of (step_at (run_of self.now) depth) }
     {
         let step = self.steps[depth];
-        step.action()
+        step.action
+    }
+}
+
+/// The keys of a step, if it is a join.
+#[tactic(auto, using(gq_plan::proofs::StepEquations::equations))]
+pub fn join_keys(step: &Step) -> &[u32]
+    ensures { result.now ≡ keys_of (step_of step.now) }
+{
+    match step {
+        Step::Join { side: _, keys } => keys.as_slice(),
+        Step::Scan { .. } | Step::Extend { .. } | Step::ColumnExtend { .. } => &[],
+        Step::Close { .. } | Step::ColumnClose { .. } => &[],
+        Step::Keep { .. } | Step::Differ { .. } | Step::NoLoop { .. } => &[],
+    }
+}
+
+// What a step does, as much of it as runs.
+fn action_of(step: &Step, half: Half) -> Action
+    ensures { result ≡ action_of (half_of half (step_of step.now)) }
+{
+    match step {
+        Step::Scan { node } => Action::Scan(*node),
+        Step::Extend {
+            rel,
+            from,
+            to,
+            direction,
+        } => Action::List(following(*rel, *from, *to, *direction)),
+        Step::ColumnExtend {
+            rel,
+            from,
+            to,
+            direction,
+        } => Action::Column(following(*rel, *from, *to, *direction)),
+        Step::Close {
+            rel,
+            from,
+            to,
+            direction,
+        } => Action::Close(following(*rel, *from, *to, *direction)),
+        Step::ColumnClose {
+            rel,
+            from,
+            to,
+            direction,
+        } => half_action(half, following(*rel, *from, *to, *direction)),
+        Step::Join { .. } => Action::Join,
+        Step::Keep { test } => Action::Test(*test),
+        Step::Differ { pair } => Action::Differ(*pair),
+        Step::NoLoop { rel } => Action::NoLoop(*rel),
     }
 }
 
 // What a column close does, as much of it as runs.
-#[inline(always)]
 fn half_action(half: Half, follow: Follow) -> Action
     ensures { result ≡ half_action half follow }
 {

@@ -13,7 +13,7 @@ mod plan_run;
 mod reaching;
 mod sizes;
 
-pub use action::Action;
+pub use action::{Action, join_keys};
 pub use cut::Cut;
 pub use group_steps::GroupSteps;
 pub use plan_run::{PlanRun, RunStep, Tried};

@@ -9,10 +9,10 @@ ghost use Rattle.gq_plan.specs.Soundness.{IsSound};
 ghost use Rattle.gq_steps.specs.Actions.{action_of};
 ghost use Rattle.gq_steps.specs.Levels.{known, step_at};
 ghost use Rattle.gq_steps.specs.Matches.{AreMatches};
-ghost use Rattle.gq_steps.specs.Moves.{builds_in, halves_in, run_of, steps_in};
+ghost use Rattle.gq_steps.specs.Moves.{builds_in, run_of, steps_in};
 ghost use Rattle.gq_steps.specs.Moves.{IsRun, IsHeld, IsTried};
 ghost use Rattle.gq_steps.specs.steps.Outcomes.{IsScanned, IsHopFound, IsExtended, IsClosed};
-ghost use Rattle.gq_steps.specs.steps.Outcomes.{IsClosedAs, IsMet, IsTaken};
+ghost use Rattle.gq_steps.specs.steps.Outcomes.{IsMet, IsTaken};
 ghost use Rattle.gq_steps.specs.Follows.{IsSized, CanFollow};
 ghost use Rattle.gq_steps.specs.steps.Outcomes.{CanJoin, IsJoined, with_nodes, with_rels};
 ghost use Rattle.gq_steps.specs.steps.Outcomes.{differs_at, no_loop_at, tested};
@@ -24,14 +24,14 @@ use gq_base::List;
 use gq_expr::Assigned;
 use gq_filter::RowTest;
 use gq_join::Sealed;
-use gq_plan::{Assignment, Follow, Half, Step, Typed, TypedRow, following};
+use gq_plan::{Assignment, Follow, Step, Typed, TypedRow};
 use gq_store::Graph;
 
-/// A step of a plan, and how much of it runs.
+/// A step of a plan, and what it does, as much of it as runs.
 #[derive(Clone, Copy)]
 pub struct RunStep<'g> {
     pub step: &'g Step,
-    pub half: Half,
+    pub action: Action,
 }
 
 /// A graph, a typed alternative, and a plan for it.
@@ -69,42 +69,21 @@ impl<'g> PlanRun<'g> {
         requires matches { AreMatches (run_of self.now) depth row.old matches.now }
         ensures { IsTried (run_of self.now) depth place row.old row.new result }
     {
-        match self.step(depth) {
-            Step::Scan { node } => self.scan(*node, place, row),
-            Step::Extend {
-                rel,
-                from,
-                to,
-                direction,
-            } => self.extend(following(*rel, *from, *to, *direction), place, row),
-            Step::ColumnExtend {
-                rel,
-                from,
-                to,
-                direction,
-            } => self.extend(following(*rel, *from, *to, *direction), place, row),
-            Step::Close {
-                rel,
-                from,
-                to,
-                direction,
-            } => self.close(following(*rel, *from, *to, *direction), place, row),
-            Step::ColumnClose {
-                rel,
-                from,
-                to,
-                direction,
-            } => {
-                let follow = following(*rel, *from, *to, *direction);
-                self.close_as(self.half(depth), follow, place, row)
-            }
-            Step::Keep { test } => tested(place, place == 0 && self.keep(*test, row)),
-            Step::Differ { pair } => tested(place, place == 0 && self.differ(*pair, row)),
-            Step::NoLoop { rel } => tested(place, place == 0 && self.no_loop(*rel, row)),
-            Step::Join { .. } => match self.build_at(depth) {
+        match self.action(depth) {
+            Action::Scan(node) => self.scan(node, place, row),
+            Action::List(follow) => self.extend(follow, place, row),
+            Action::Column(follow) => self.extend(follow, place, row),
+            Action::Close(follow) => self.close(follow, place, row),
+            Action::ColumnClose(follow) => self.close(follow, place, row),
+            Action::Take(follow) => self.take(follow, place, row),
+            Action::Join => match self.build_at(depth) {
                 Some(build) => join(build, matches, place, row),
                 None => unreachable!(),
             },
+            Action::Test(test) => tested(place, place == 0 && self.keep(test, row)),
+            Action::Differ(pair) => tested(place, place == 0 && self.differ(pair, row)),
+            Action::NoLoop(rel) => tested(place, place == 0 && self.no_loop(rel, row)),
+            Action::Meet(follow) => tested(place, self.meets(follow, row)),
         }
     }
 
@@ -132,14 +111,6 @@ impl<'g> PlanRun<'g> {
         ensures { slice_index_or (steps_in self.now) depth result.now ≡ result.now }
     {
         self.steps[depth].step
-    }
-
-    /// How much of the step at a depth runs.
-    pub fn half(&self, depth: usize) -> Half
-        requires { depth < length (steps_in self.now) }
-        ensures { result ≡ slice_index_or (halves_in self.now) depth Half.Whole }
-    {
-        self.steps[depth].half
     }
 
     /// The build of the step at a depth, if there is one.
@@ -199,19 +170,6 @@ impl<'g> PlanRun<'g> {
                 row.rels.set(follow.rel as usize, found.number);
                 Tried::Made
             }
-        }
-    }
-
-    // A column close as it runs.
-    fn close_as(&self, half: Half, follow: Follow, place: u32, row: &mut Assignment) -> Tried
-        requires { CanFollow self.now.graph.now self.now.typed.now row.old follow }
-        ensures { IsClosedAs half self.now.graph.now self.now.typed.now follow place
-            row.old row.new result }
-    {
-        match half {
-            Half::Whole => self.close(follow, place, row),
-            Half::First => self.take(follow, place, row),
-            Half::Second => tested(place, self.meets(follow, row)),
         }
     }
 

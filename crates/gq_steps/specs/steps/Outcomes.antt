@@ -5,8 +5,6 @@ use Rattle.gq_base.specs.Valid.{row_count}
 use Rattle.gq_join.specs.Kept.{Held, matches_of, node_in, rel_in, place_of}
 use Rattle.gq_plan.specs.Conditions.{passes, differs, no_loop}
 use Rattle.gq_plan.specs.Meaning.{holds}
-use Rattle.gq_plan.specs.declared.halves.Half.{Half}
-use Rattle.gq_plan.specs.declared.halves.Half.TheVariants.{Whole, First, Second}
 use Rattle.gq_plan.specs.declared.typed.Typed.{Typed}
 use Rattle.gq_store.specs.Neighbours.{neighbours}
 use Rattle.gq_steps.specs.steps.Hops.{IsHop, IsHopAt}
@@ -115,9 +113,3 @@ abbrev pub tested : ℕ → Bool → Tried
 tested zero true = Made
 tested zero false = Missed
 tested (suc place) passes = Past
-
--- a column close as it runs
-abbrev pub IsClosedAs : Half → Graph → Typed → Follow → ℕ → Assignment → Assignment → Tried → Type 0
-IsClosedAs Whole g y f place old new told = IsClosed g y f place old new told
-IsClosedAs First g y f place old new told = IsTaken g y f place old new told
-IsClosedAs Second g y f place old new told = (new ≡ old) × ((met : Bool) × IsMet g y f old met × (told ≡ tested place met))

@@ -1,10 +1,7 @@
-use Rattle.std.proofs.Common.{◌≡◌, ◌∙◌, ℕ, ◌+◌, ◌<◌, length, refl, sym, ap, ap₂, subst, arith}
-use Rattle.std.specs.Prelude.{slice_index_or}
-use Rattle.gq_plan.specs.Halves.{half_of}
+use Rattle.std.proofs.Common.{◌≡◌, ◌∙◌, ℕ, ◌+◌, ◌<◌, length, sym, ap₂, subst, arith}
 use Rattle.gq_plan.specs.Plans.{step_of}
-use Rattle.gq_plan.specs.declared.halves.Half.{Half}
-use Rattle.gq_plan.specs.declared.plan.Step as code
 use Rattle.gq_homes.specs.steps.Housing.{AreHoused, CanHouse, housed, with_filling, build_in}
+use Rattle.gq_steps.specs.Actions.{step_by}
 use Rattle.gq_steps.specs.Levels.{step_at, known}
 use Rattle.gq_steps.specs.Moves.{builds_in, run_of, steps_in, IsRun}
 use Rattle.gq_steps.specs.declared.plan_run.PlanRun.{PlanRun}
@@ -12,11 +9,8 @@ use Rattle.gq_steps.proofs.Binding.{fits_at}
 use Rattle.gq_homes.proofs.Homing.{built_at, can_house, housed_first, housed_more, makes_first}
 use Rattle.gq_steps.proofs.Joined.{builds_many}
 use Rattle.gq_steps.proofs.Standings.{tile_at}
-use Rattle.gq_steps.proofs.Trying.{as_many_steps, half_at, step_is}
+use Rattle.gq_steps.proofs.Trying.{as_many_steps, step_is}
 use Rattle.gq_homes.proofs.homes.house_group.Goals as goal
-
-step_there : (k : PlanRun) (d : ℕ) (x : code.Step) (h : Half) → d < length (steps_in k) → slice_index_or (steps_in k) d x ≡ x → h ≡ half_at k d → step_at (run_of k) d ≡ half_of h (step_of x)
-step_there k d x h low is half = step_is k d low x x (step_of x) is refl ∙ ap (λ p. half_of p (step_of x)) (sym half)
 
 pub loop-step-init : goal.loop-step-init
 loop-step-init c =
@@ -49,8 +43,8 @@ house-requires c =
     let below = c.loop-step-test.true in
     let inside = c.loop-step.invariant.2 in
     let low : d < length (steps_in k) = omega (arith, below, inside) in
-    let there = step_there k d c.step.result.now c.half.result low c.step.ensures c.half.ensures in
-    subst (λ o. CanHouse o c.loop-step.housing.homes (half_of c.half.result (step_of c.step.result.now))) (sym c.build_at-build.ensures)
+    let there = step_is k d low c.step.result.now c.step.result.now c.action.result c.step.ensures c.action.ensures in
+    subst (λ o. CanHouse o c.loop-step.housing.homes (step_by c.action.result (step_of c.step.result.now))) (sym c.build_at-build.ensures)
     (subst (CanHouse (build_in (run_of k) d) c.loop-step.housing.homes) there
     (can_house (run_of k) c.requires.run c.loop-step.housing.homes old.homes.node_count old.homes.rel_count (known (run_of k) d) c.loop-step.housing.fillings.items (build_in (run_of k) d) (step_at (run_of k) d)
     (fits_at (run_of k) c.requires.run d (step_low k d low)) (built_at (run_of k) c.requires.run c.args.groups.now c.args.number d (step_low k d low))))
@@ -67,7 +61,7 @@ loop-step-preserved c =
     let i = c.args.number in
     let fs = c.loop-step.housing.fillings.items in
     let h = c.loop-step.housing.homes in
-    let there = step_there k d c.step.result.now c.half.result low c.step.ensures c.half.ensures in
+    let there = step_is k d low c.step.result.now c.step.result.now c.action.result c.step.ensures c.action.ensures in
     let build : build_in c' d ≡ _ = sym c.build_at-build.ensures in
     let same : housed (build_in c' d) i (length fs) (step_at c' d) h ≡ c.house.new.housing.homes =
     ap₂ (λ o s. housed o i (length fs) s h) build there ∙ sym c.in_ok-house.ensures.homes in

@@ -4,6 +4,9 @@ use Rattle.std.specs.Option.{option_copied}
 use Rattle.gq_steps.specs.declared.plan_run.RunStep.{RunStep}
 use Rattle.gq_sift.proofs.reading.binds_one.Goals as goal
 
+pub action-requires : goal.action-requires
+action-requires c = omega (arith, c.if-depth-len.false, c.len.ensures, c.args.plan_run.now.steps.ok.0, length-map c.args.plan_run.now.steps.items (λ (r : RunStep). r.step.now))
+
 pub step-requires : goal.step-requires
 step-requires c = omega (arith, c.if-depth-len.false, c.len.ensures, c.args.plan_run.now.steps.ok.0, length-map c.args.plan_run.now.steps.items (λ (r : RunStep). r.step.now))
 
