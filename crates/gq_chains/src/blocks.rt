@@ -105,11 +105,12 @@ fn sift_blocks(
     }
 }
 
-// Whether one of 64 places is marked.
-fn has_mark(marks: &Marks, offset: u32) -> bool
+/// Whether one of 64 places is marked.
+pub(crate) fn has_mark(marks: &Marks, offset: u32) -> bool
     requires { offset + 64 ≤ VECTOR }
-    ensures { result ≡ false → (j : ℕ) → offset ≤ j → j < offset + 64 →
+    ensures none { result ≡ false → (j : ℕ) → offset ≤ j → j < offset + 64 →
         is_marked marks.now j ≡ false }
+    ensures one { result ≡ true → (j : ℕ) × (j < 64) × (is_marked marks.now (offset + j) ≡ true) }
 {
     match marks.next_from(offset) {
         None => false,

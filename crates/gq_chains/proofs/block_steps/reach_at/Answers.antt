@@ -21,7 +21,7 @@ returns-in-None c =
     subst (IsPut (λ j old told new. Reaches c.args.plan_run.now.graph.now c.args.plan_run.now.typed.now c.args.follow 0 old told new) c.args.row.now c.args.offset c.args.at c.args.rows.now c.args.rows.now c.args.marks.now) (sym c.set.ensures.written)
     (put_dropped (λ j old told new. Reaches c.args.plan_run.now.graph.now c.args.plan_run.now.typed.now c.args.follow 0 old told new) c.args.row.now c.args.offset c.args.at c.args.rows.now c.args.marks.now c.requires.at c.requires.on
     (record {
-      past = none_past (neighbours c.args.plan_run.now.graph.now (rel_table c.args.plan_run.now.typed.now c.args.follow.rel) c.args.follow.direction (slice_index (place_row c.args.row.now c.args.rows.now c.args.at).nodes c.args.follow.from)) (sym c.next_row.ensures.found ∙ c.in-None.is);
+      past = none_past (neighbours c.args.plan_run.now.graph.now (rel_table c.args.plan_run.now.typed.now c.args.follow.rel) c.args.follow.direction (slice_index (place_row c.args.row.now c.args.rows.now c.args.at).nodes c.args.follow.from)) (sym c.requires.found.first ∙ c.in-None.is);
       same = refl;
     }))
 
@@ -33,8 +33,8 @@ returns-in-Some c =
     c.args.follow.to c.in-Some.found (omega (arith, to, sized, many_nodes c.args.row.now c.args.rows.now c.args.at)) c.requires.few c.told-rows
     (record {
       row = c.in-Some.found;
-      leads = sym c.next_row.ensures.found ∙ c.in-Some.is;
-      inside = subst (λ o. IfSome o (λ other. other < near_rows c.args.plan_run.now.graph.now (rel_table c.args.plan_run.now.typed.now c.args.follow.rel) (opposite c.args.follow.direction))) c.in-Some.is c.next_row.ensures.ends;
-      few = c.next_row.ensures.few;
+      leads = sym c.requires.found.first ∙ c.in-Some.is;
+      inside = subst (λ o. IfSome o (λ other. other < near_rows c.args.plan_run.now.graph.now (rel_table c.args.plan_run.now.typed.now c.args.follow.rel) (opposite c.args.follow.direction))) c.in-Some.is c.requires.found.inside;
+      few = c.requires.found.few;
       written = refl;
     })

@@ -25,7 +25,7 @@ loop-block-preserved c =
       | else-has_mark b ↦
           subst (IsSifting (run_of c.args.plan_run.now) c.args.group c.args.first c.args.count c.args.row.now (64 * (c.loop-block.block + 1)) c.args.row.now) (sym b.marks-is)
           (sifting_passed (run_of c.args.plan_run.now) c.args.group c.args.first c.args.count c.args.row.now (64 * c.loop-block.block) (64 * (c.loop-block.block + 1)) c.args.row.now c.loop-block.marks c.loop-block.invariant (omega arith)
-          (λ j above below. c.has_mark.ensures b.if-has_mark.false j above (omega (arith, below))))
+          (λ j above below. c.has_mark.ensures.none b.if-has_mark.false j above (omega (arith, below))))
     ]
 
 pub returns : goal.returns
