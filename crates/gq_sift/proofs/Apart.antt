@@ -3,19 +3,14 @@ use Rattle.std.proofs.Common.{◌≡◌, ◌≢◌, inl, inr, ℕ, ◌<◌, ◌=
 use Rattle.std.specs.Prelude.{slice_index}
 use Rattle.std.proofs.lemmas.Bool.{cases_eq, eq-eqb, ne_eqb}
 use Rattle.std.proofs.lemmas.List.{get_or-set_same, get_or-set_other, length-set}
-use Rattle.std.proofs.lemmas.Option.{slice_get-get_or}
-use Rattle.gq_plan.specs.Assignments.{same_rel}
 use Rattle.gq_plan.specs.Conditions.{differ, differs}
-use Rattle.gq_plan.specs.Rows.{as_read, rel_at, rel_table, table_of}
-use Rattle.gq_plan.specs.steps.Rows.{rel_in}
+use Rattle.gq_plan.specs.Rows.{as_read, rel_table}
 use Rattle.gq_plan.specs.declared.assignment.Assignment.{Assignment}
 use Rattle.gq_plan.specs.declared.typed.RelPair.{RelPair}
 use Rattle.gq_plan.specs.declared.typed.Typed.{Typed}
 use Rattle.gq_chains.proofs.Apart.{apart, read_at}
 use Rattle.gq_steps.specs.Tests.{IsPairWith, other_of}
 use Rattle.gq_steps.specs.steps.Outcomes.{with_number}
-use Rattle.gq_steps.proofs.Followed.{get_some}
-use Rattle.gq_plan.proofs.Rows.{rel_read}
 
 pub eqb-sym : (a b : ℕ) → (a == b) ≡ (b == a)
 eqb-sym a b = elim (cases_eq a b) [ inl e ↦ eq-eqb a b e ∙ sym (eq-eqb b a (sym e)) | inr other ↦ ne_eqb a b other ∙ sym (ne_eqb b a (λ e. other (sym e))) ]

@@ -1,5 +1,5 @@
 -- A group that makes something of a place makes it with the load number there, where rows or that number alone decide its tests.
-use Rattle.std.proofs.Common.{◌≡◌, ◌≢◌, inl, inr, ℕ, suc, ◌+◌, ◌^◌, ◌<◌, ◌≤◌, ◌==◌, Bool, true, false, not, Option, Some, None, length, refl, sym, ap, ◌∙◌, subst, arith}
+use Rattle.std.proofs.Common.{◌≡◌, ◌≢◌, inr, ℕ, suc, ◌+◌, ◌^◌, ◌<◌, ◌≤◌, ◌==◌, Bool, true, false, not, Option, Some, None, length, refl, sym, ap, ◌∙◌, subst, arith}
 use Rattle.std.proofs.lemmas.Bool.{true≢false}
 use Rattle.std.specs.Prelude.{slice_get, slice_index}
 use Rattle.gq_base.specs.Directions.{opposite}
@@ -9,27 +9,22 @@ use Rattle.gq_plan.specs.Plans.{Step, Scan, Extend, Close, Join, Keep, Differ, N
 use Rattle.gq_plan.specs.Rows.{as_read, rel_table}
 use Rattle.gq_plan.specs.declared.assignment.Assignment.{Assignment}
 use Rattle.gq_store.specs.Neighbours.{near_rows, neighbours, numbers}
-use Rattle.gq_search.specs.Layouts.{has_one}
-use Rattle.gq_steps.specs.Tests.{IsLoopTest, IsPairTest, IsRowTest, loop_of, other_of, pair_of, test_of}
+use Rattle.gq_steps.specs.Tests.{IsLoopTest, IsPairTest, IsRowTest, loop_of, other_of}
 use Rattle.gq_steps.specs.Keeps.{IsRange, IsTriedAt}
-use Rattle.gq_chains.specs.steps.Judged.{IsJudged}
 use Rattle.gq_steps.specs.Actions.{action_of}
 use Rattle.gq_steps.specs.Levels.{Run, step_at, known}
-use Rattle.gq_steps.specs.Moves.{run_of, IsRun, IsHeld, IsTried}
+use Rattle.gq_steps.specs.Moves.{IsRun, IsHeld, IsTried}
 use Rattle.gq_steps.specs.steps.Hops.{IsHop}
 use Rattle.gq_steps.specs.steps.Outcomes.{differs_at, no_loop_at, passes_at, tested, with_number, with_row}
 use Rattle.gq_steps.specs.Follows.{CanFollow}
-use Rattle.gq_chains.specs.steps.Extends.{Extends, Leads}
+use Rattle.gq_chains.specs.steps.Extends.{Extends}
 use Rattle.gq_steps.specs.declared.follow.Hop.{Hop}
-use Rattle.gq_steps.specs.declared.action.Action.{Action}
 use Rattle.gq_steps.specs.declared.action.Action.TheVariants as act
 use Rattle.gq_steps.specs.declared.group_steps.GroupSteps.{GroupSteps}
 use Rattle.gq_plan.specs.declared.follow.Follow.{Follow}
-use Rattle.gq_steps.specs.declared.plan_run.PlanRun.{PlanRun}
 use Rattle.gq_steps.specs.declared.plan_run.Tried.TheVariants.{Made}
 use Rattle.gq_chains.proofs.Acted.{differ_of, keep_of}
 use Rattle.gq_sift.proofs.Apart.{differs_by}
-use Rattle.gq_steps.proofs.Acting.{acts}
 use Rattle.gq_steps.proofs.Going.{IsGoing, begins, ends, made_first, tried_made, tried_missed}
 use Rattle.gq_steps.proofs.Hopping.{hop_there}
 use Rattle.gq_steps.proofs.Stepping.{follows}

@@ -10,5 +10,6 @@ pub mod Matching
 pub mod Recalled
 pub mod Refused
 pub mod Scanned
+pub mod Spanned
 pub mod Told
 pub mod Unlooped

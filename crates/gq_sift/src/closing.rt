@@ -12,28 +12,30 @@ use gq_lanes::keep_equal_id;
 use gq_plan::Assignment;
 use gq_steps::{Action, GroupSteps, PlanRun};
 
-/// Of so many places of a group's list, from one on, those at which its first step can make something.
+/// Marks those of so many places of a group's list, from one on, at which its first step can make
+/// something.
 pub(crate) fn candidates(
     plan_run: &PlanRun<'_>,
     group: GroupSteps,
     first: u32,
     count: u32,
     row: &Assignment,
-) -> Marks
+    marks: &mut Marks,
+)
     requires run { IsRun (run_of plan_run.now) }
     requires step { group.first < length (steps_in plan_run.now) }
     requires action { group.action ≡ action_of (step_at (run_of plan_run.now) group.first) }
     requires held { IsHeld (run_of plan_run.now) row.now (known (run_of plan_run.now) group.first) }
     requires count { count ≤ VECTOR }
     requires fits { first + count < 2 ^ 32 }
-    ensures { AreCandidates (run_of plan_run.now) group.first first count row.now result }
+    ensures { AreCandidates (run_of plan_run.now) group.first first count row.now marks.new }
 {
     match group.action {
         Action::Close(follow) => {
             let list = plan_run.list(follow, row);
-            closing(list, first, count, row.nodes.as_slice()[follow.to as usize])
+            *marks = closing(list, first, count, row.nodes.as_slice()[follow.to as usize]);
         }
-        _ => Marks::first(count),
+        _ => *marks = Marks::first(count),
     }
 }
 

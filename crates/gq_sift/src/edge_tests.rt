@@ -7,7 +7,7 @@ ghost use Rattle.gq_chains.specs.Among.{IsAmong};
 ghost use Rattle.gq_chains.specs.steps.Extends.{Extends};
 ghost use Rattle.gq_filter.specs.Placed.{Passes, Refuses};
 ghost use Rattle.gq_plan.specs.Rows.{rel_table};
-ghost use Rattle.gq_sift.specs.steps.EdgeTests.{IsTestedAs, StandsWhere};
+ghost use Rattle.gq_sift.specs.steps.EdgeTests.{IsSpanEnd, IsTestedAs, StandsWhere};
 ghost use Rattle.gq_sift.specs.steps.Parts.{AreIn, Drops, IsPart};
 ghost use Rattle.gq_steps.specs.Keeps.{IsRange, IsSifted};
 ghost use Rattle.gq_steps.specs.Levels.{before, built_at, known, step_at};
@@ -17,6 +17,7 @@ ghost use Rattle.gq_store.specs.Neighbours.{neighbours};
 
 use crate::finding::{ListPart, part_from};
 use crate::lists::listed;
+use gq_base::Direction;
 use gq_bits::{Marks, VECTOR};
 use gq_chains::test_at;
 use gq_filter::PlacedTest;
@@ -122,6 +123,8 @@ fn test_by(
     requires run { IsRun (run_of plan_run.now) }
     requires table { rel_table plan_run.now.typed.now rel ≡ part.table }
     requires part { IsPart plan_run.now.graph.now part }
+    requires ordered { part.low ≤ part.high }
+    requires few { part.high ≤ part.low + VECTOR }
     requires marks { AreIn part marks.old }
     ensures drops { Drops (λ j. IsTestedAs (run_of plan_run.now) rel part test false (part.low + j))
         marks.old marks.new }
@@ -138,9 +141,51 @@ fn test_by(
     }
 }
 
-// The same of a condition that places decide. Where not all is told, and the first place is not
-// refused, the others are not asked: what is not refused is tested once more.
+// The same of a condition that places decide.
 fn test_places(
+    graph: &Graph,
+    part: ListPart,
+    test: PlacedTest<'_>,
+    told: bool,
+    marks: &mut Marks,
+) -> bool
+    requires part { IsPart graph.now part }
+    requires ordered { part.low ≤ part.high }
+    requires few { part.high ≤ part.low + VECTOR }
+    requires marks { AreIn part marks.old }
+    ensures drops { Drops (λ j. StandsWhere graph.now part (Refuses test.entry) (part.low + j))
+        marks.old marks.new }
+    ensures passed { result ≡ true → (j : ℕ) → is_marked marks.new j ≡ true →
+        StandsWhere graph.now part (Passes test.entry) (part.low + j) }
+    ensures before { result ≡ true → told ≡ true }
+{
+    match span_end(graph, part, test) {
+        None => test_each(graph, part, test, told, marks),
+        Some(high) => {
+            test.keep(high - (part.high - part.low), high, marks);
+            told
+        }
+    }
+}
+
+// The end of the places at which the relationships of a part of a list stand, if these follow one
+// another, and each tells whether it passes.
+fn span_end(graph: &Graph, part: ListPart, test: PlacedTest<'_>) -> Option<u32>
+    requires part { IsPart graph.now part }
+    ensures { IfSome result (IsSpanEnd graph.now part test.entry) }
+{
+    match part.direction {
+        Direction::Backward => None,
+        Direction::Forward => match graph.first_place(part.table, part.row) {
+            None => None,
+            Some(first) => test.end_of(first, part.high),
+        },
+    }
+}
+
+// The same place by place. Where not all is told, and the first place is not refused, the others are
+// not asked: what is not refused is tested once more.
+fn test_each(
     graph: &Graph,
     part: ListPart,
     test: PlacedTest<'_>,

@@ -68,7 +68,7 @@ fn sift_each(
         (built_at c group.first) (step_at c group.first) (before c row.old group.first)) }
     ensures { IsSifted (run_of plan_run.now) group first count row.old row.new marks.new }
 {
-    *marks = candidates(plan_run, group, first, count, row);
+    candidates(plan_run, group, first, count, row, marks);
     if test_edges(plan_run, group, first, count, row, marks) {
         return;
     }

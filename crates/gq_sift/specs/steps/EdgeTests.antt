@@ -1,6 +1,7 @@
 -- Places of a list whose relationships a condition refuses, or is true of.
-use Rattle.std.specs.Prelude.{◌≡◌, ℕ, Bool, Some, slice_get}
+use Rattle.std.specs.Prelude.{◌≡◌, ◌+◌, ◌<◌, ◌≤◌, ℕ, Bool, Some, slice_get}
 use Rattle.gq_base.specs.Plain.{Graph}
+use Rattle.gq_filter.specs.declared.placed.PlacedTest.{PlacedTest}
 use Rattle.gq_plan.specs.declared.assignment.Assignment.{Assignment}
 use Rattle.gq_sift.specs.declared.finding.ListPart.{ListPart}
 use Rattle.gq_sift.specs.steps.Parts.{numbers_of}
@@ -21,3 +22,10 @@ pub record IsTestedAs (c : Run) (x : ℕ) (p : ListPart) (i : ℕ) (told : Bool)
   pub number : ℕ
   pub there : slice_get (numbers_of c.graph p) place ≡ Some number
   pub says : (a : Assignment) → slice_get a.rels x ≡ Some number → passes_at c.graph c.typed a i ≡ told
+
+-- the relationships of a part stand side by side up to a place, and where they stand a test has cells
+pub record IsSpanEnd (g : Graph) (p : ListPart) (t : PlacedTest) (high : ℕ) : Type 0 where
+  pub first : ℕ
+  pub ends : high ≡ first + p.high
+  pub stand : (k : ℕ) → k < p.high → number_at g p.table (first + k) ≡ slice_get (numbers_of g p) k
+  pub inside : high ≤ t.places

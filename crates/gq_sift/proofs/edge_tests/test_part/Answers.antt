@@ -29,6 +29,18 @@ test_at-requires c = let end = c.requires.steps.inside in let below = c.loop-dep
 pub test_by-told-requires-clause-table : goal.test_by-told-requires-clause-table
 test_by-told-requires-clause-table c = sym (ap (λ (p : ListPart). p.table) c.part_from-part.ensures.is)
 
+pub test_by-told-requires-clause-ordered : goal.test_by-told-requires-clause-ordered
+test_by-told-requires-clause-ordered c =
+    let low = ap (λ (p : ListPart). p.low) c.part_from-part.ensures.is in
+    let high = ap (λ (p : ListPart). p.high) c.part_from-part.ensures.is in
+    omega (arith, low, high)
+
+pub test_by-told-requires-clause-few : goal.test_by-told-requires-clause-few
+test_by-told-requires-clause-few c =
+    let low = ap (λ (p : ListPart). p.low) c.part_from-part.ensures.is in
+    let high = ap (λ (p : ListPart). p.high) c.part_from-part.ensures.is in
+    omega (arith, low, high, c.requires.count)
+
 pub test_by-told-requires-clause-marks : goal.test_by-told-requires-clause-marks
 test_by-told-requires-clause-marks c =
     subst (λ (p : ListPart). AreIn p c.loop-depth.marks) (sym c.part_from-part.ensures.is)

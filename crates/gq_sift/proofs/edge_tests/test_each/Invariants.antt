@@ -4,7 +4,7 @@ use Rattle.gq_filter.specs.Placed.{Passes, Refuses}
 use Rattle.gq_sift.specs.steps.EdgeTests.{StandsWhere}
 use Rattle.gq_sift.specs.steps.Parts.{Drops}
 use Rattle.gq_sift.proofs.Told.{AllMarked}
-use Rattle.gq_sift.proofs.edge_tests.test_places.Given as goal
+use Rattle.gq_sift.proofs.edge_tests.test_each.Given as goal
 
 abbrev pub invariant-places : goal.invariant-places
 invariant-places l =
